@@ -1,0 +1,10 @@
+pub mod Bytes
+pub mod Table
+pub mod Lengths
+pub mod Reading
+pub mod Writing
+pub mod RoundTrip
+pub mod Accepted
+pub mod Exactly
+pub mod Only
+pub mod Examples

@@ -1,0 +1,65 @@
+-- `wire::read_fixed` meets its contract: at each `return` the tests that led there say which case of `readFixed` holds.
+-- Assumes nothing.
+use native.Mathlib.Omega.{arith}
+use lib.ListN.{length-take}
+use Rattle.wire.proofs.Reading.{fixed-ends, fixed-value}
+use borrow.Author.Needs.{needs}
+use Rattle.wire.proofs.read_fixed.Statement.{statement}
+use Rattle.wire.proofs.read_fixed.Tie as tie
+use Rattle.wire.proofs.read_fixed.Reads as reads
+use Rattle.wire.proofs.read_fixed.Lts as lts
+use Rattle.wire.proofs.join.Reads as join-reads
+
+-- src/lib.rt:162:9
+returns : tie.Need-returns
+returns c =
+    let a = c .before .before .args in
+    fixed-ends (a .len) (a .s .now) (a .at) (omega arith)
+
+-- src/lib.rt:164:8
+sub-if2 : tie.Need-sub-if2
+sub-if2 c = search needs
+
+-- src/lib.rt:165:9
+returns-2 : tie.Need-returns-2
+returns-2 c =
+    let a = c .before .before .before .args in
+    fixed-ends (a .len) (a .s .now) (a .at) (omega arith)
+
+-- src/lib.rt:167:15
+add-end : tie.Need-add-end
+add-end c = search needs
+
+-- src/lib.rt:168:22
+sub-join : tie.Need-sub-join
+sub-join c = search needs
+
+-- src/lib.rt:168:22
+part-join-start : tie.Need-part-join-start
+part-join-start c = search needs
+
+-- src/lib.rt:168:22
+part-join-end : tie.Need-part-join-end
+part-join-end c = search needs
+
+-- src/lib.rt:168:9
+join-requires : tie.Need-join-requires
+join-requires c κs = search needs
+
+-- src/lib.rt:157:1
+returns-3 : tie.Need-returns-3
+returns-3 c = fixed-value _ _ _ _ (omega arith) (c .join .ensures)
+
+pub read-fixed-spec : {M : Type 1} → statement M
+read-fixed-spec =
+    tie.close
+    (tie.spec
+    returns
+    sub-if2
+    returns-2
+    add-end
+    sub-join
+    part-join-start
+    part-join-end
+    join-requires
+    returns-3)

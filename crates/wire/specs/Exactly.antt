@@ -1,0 +1,50 @@
+-- The rows of the refusal table for numbers and fixed fields: each number is given exactly when its row says.
+use Prim.Native.Nat.{ℕ, _+_, _/_, _≤_, _<_}
+use mathlib.Core.Path.{_≡_}
+use mathlib.Core.Logic.{_↔_}
+use mathlib.Core.List.{List}
+use lib.ListN.{length, getD}
+use Rattle.wire.specs.Fields.{readFixed, placed, written}
+use Rattle.wire.specs.Numbers.{lenOf, limit, encodeAll, readNumber, putAnswer, putBytes}
+use Rattle.wire.specs.Refusals.{numberRefusal, putRefusal}
+
+-- a read refuses with 2 where the bytes end before the field does, and never otherwise
+pub record Reads (refusal ends end : ℕ) : Type 0 where
+  pub two : refusal ≡ 2 ↔ ends < end
+  pub accepted : refusal ≡ 0 ↔ end ≤ ends
+
+-- a fixed field, of any length
+abbrev pub FixedReads : Type 0
+FixedReads = (len : ℕ) (s : List ℕ) (at : ℕ) → Reads (numberRefusal (readFixed len s at)) (length s) (at + len)
+
+-- a number, whose first byte says its length
+abbrev pub NumberReads : Type 0
+NumberReads = (s : List ℕ) (at : ℕ) → Reads (numberRefusal (readNumber s at)) (length s) (at + lenOf (getD s at 0 / 64))
+
+-- no number of the list is above the limit
+abbrev pub Small : List ℕ → Type 0
+Small vs = (i : ℕ) → i < length vs → getD vs i 0 ≤ limit
+
+-- a write of numbers gives 5 for a number above the limit, then 9 where the room is short
+pub record Writes (refusal room end : ℕ) (vs : List ℕ) : Type 0 where
+  pub five : refusal ≡ 5 ↔ (Small vs → ⊥)
+  pub nine : refusal ≡ 9 ↔ (Small vs × (room < end))
+  pub accepted : refusal ≡ 0 ↔ (Small vs × (end ≤ room))
+
+abbrev pub NumbersWrite : Type 0
+NumbersWrite = (xs : List ℕ) (at : ℕ) (vs : List ℕ) → Writes (putRefusal (putAnswer xs at vs)) (length xs) (at + length (encodeAll vs)) vs
+
+-- a write of bytes gives 9 where the room is short, and nothing else
+pub record Places (refusal room end : ℕ) : Type 0 where
+  pub nine : refusal ≡ 9 ↔ room < end
+  pub accepted : refusal ≡ 0 ↔ end ≤ room
+
+abbrev pub BytesWrite : Type 0
+BytesWrite = (xs : List ℕ) (at : ℕ) (ys : List ℕ) → Places (putRefusal (placed xs at ys)) (length xs) (at + length ys)
+
+-- a refused write leaves every element as it was
+abbrev pub NumbersUnchanged : Type 0
+NumbersUnchanged = (xs : List ℕ) (at : ℕ) (vs : List ℕ) → (putRefusal (putAnswer xs at vs) ≡ 0 → ⊥) → putBytes xs at vs ≡ xs
+
+abbrev pub BytesUnchanged : Type 0
+BytesUnchanged = (xs : List ℕ) (at : ℕ) (ys : List ℕ) → (putRefusal (placed xs at ys) ≡ 0 → ⊥) → written xs at ys ≡ xs

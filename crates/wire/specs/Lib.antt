@@ -1,0 +1,5 @@
+pub mod Bytes
+pub mod Fields
+pub mod Numbers
+pub mod Refusals
+pub mod Exactly
