@@ -1,0 +1,15 @@
+-- `other_than` meets its contract, by its two cases. Assumes nothing.
+use mathlib.Core.Path.{sym, ap}
+use mathlib.Core.Bool.{Bool}
+use Rattle.window.specs.Words.{otherThan}
+use Rattle.window.proofs.other_than.Statement.{statement}
+use Rattle.window.proofs.other_than.Tie as tie
+
+returns : tie.Need-returns
+returns c = sym (ap (λ (b : Bool). otherThan b (c .before .args .word)) (c .if1 .taken))
+
+returns-2 : tie.Need-returns-2
+returns-2 c = sym (ap (λ (b : Bool). otherThan b (c .before .args .word)) (c .if1 .left))
+
+pub other-than-spec : {M : Type 1} → statement M
+other-than-spec = tie.close (tie.spec returns returns-2)
