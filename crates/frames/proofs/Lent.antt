@@ -1,0 +1,113 @@
+-- The lent slice of the ACK reader: a refused call leaves it as it was, and an accepted one every element after the ranges.
+-- Assumes nothing.
+use Prim.Native.Nat.{ℕ, zero, suc, _+_, _-_, _*_}
+use mathlib.Core.Path.{_≡_, refl, _∙_}
+use mathlib.Core.Bool.{Bool, true, false}
+use mathlib.Core.List.{List}
+use native.Mathlib.Nat.{zero-add}
+use native.Mathlib.Omega.{arith}
+use lib.Dec.{eqb, leb}
+use lib.ListN.{length, drop}
+use lib.Seq.{drop-at}
+use Rattle.wire.specs.Bytes.{pick, splice}
+use Rattle.wire.specs.Fields.{field}
+use Rattle.wire.specs.Numbers.{widthOf, readNumber}
+use Rattle.wire.specs.declared.Number.{Number}
+use Rattle.wire.specs.declared.Number.the-variants.{Value, Ends as Stops}
+use Rattle.frames.specs.Ack.{Ranges, ended, before, below, rangesFrom, AckRead, refused, judged, readRanges, readAck}
+use Rattle.frames.specs.Refusals.{ackRefusal}
+use Rattle.frames.specs.Exactly.{AckUnchanged, AckLater}
+use Rattle.frames.specs.declared.Walk.{Walk}
+use Rattle.frames.specs.declared.Walk.the-variants.{Whole, Ends, BelowZero}
+use Rattle.frames.specs.declared.Ack.{Ack}
+use Rattle.frames.specs.declared.Ack.the-variants.{Frame, Ends as Cut, OtherType, BelowZero as Below, NoRoom}
+
+-- what holds of each answer of a chain holds of the chain
+field-all : {R : Type 0} (P : R → Type 0) (r : Number) {x : R} {f : ℕ → ℕ → R} → P x → ((v n : ℕ) → P (f v n)) → P (field r x f)
+field-all P (Value v n) p h = h v n
+field-all P Stops p h = p
+
+pick-all : {R : Type 0} (P : R → Type 0) (b : Bool) {x y : R} → P x → P y → P (pick b x y)
+pick-all P true p q = p
+pick-all P false p q = q
+
+-- ---- a whole walk has two numbers for each range
+
+Paired : ℕ → Ranges → Type 0
+Paired n r = (used : ℕ) → r .walk ≡ Whole used → length (r .pairs) ≡ 2 * n
+
+cut-paired : (n : ℕ) → Paired n (ended Ends)
+unfolding Paired
+cut-paired n used e = let z : _≡_ {A = ℕ} 0 1 = cc in absurd (omega arith)
+
+low-paired : (n : ℕ) → Paired n (ended BelowZero)
+unfolding Paired
+low-paired n used e = let z : _≡_ {A = ℕ} 0 1 = cc in absurd (omega arith)
+
+one-more : (lo hi n : ℕ) (r : Ranges) → Paired n r → Paired (suc n) (before lo hi r)
+unfolding Paired
+one-more lo hi n r p used e = omega (arith, p used e)
+
+paired : (left : ℕ) (s : List ℕ) (at high : ℕ) → Paired (suc left) (rangesFrom left s at high)
+unfolding rangesFrom Paired
+paired zero s at high =
+    field-all (Paired 1) (readNumber s at) (cut-paired 1) (λ len mid.
+    pick-all (Paired 1) (leb len high) (λ used e. refl) (low-paired 1))
+paired (suc left) s at high =
+    field-all (Paired (suc (suc left))) (readNumber s at) (cut-paired (suc (suc left))) (λ len mid.
+    pick-all (Paired (suc (suc left))) (leb len high)
+    (one-more (high - len) high (suc left) (below s mid (high - len) (λ lower next. rangesFrom left s next lower))
+    (field-all (Paired (suc left)) (readNumber s mid) (cut-paired (suc left)) (λ gap next.
+    pick-all (Paired (suc left)) (leb (gap + 2) (high - len)) (paired left s next (high - len - gap - 2)) (low-paired (suc left)))))
+    (low-paired (suc (suc left))))
+
+-- ---- the slice
+
+-- what is to hold of an answer and the slice that it leaves
+record Kept (xs : List ℕ) (r : AckRead) : Type 0 where
+  unchanged : (ackRefusal (r .answer) ≡ 0 → ⊥) → r .slice ≡ xs
+  later : (l d ranges used : ℕ) → r .answer ≡ Frame l d ranges used → drop (2 * ranges) (r .slice) ≡ drop (2 * ranges) xs
+
+-- a refusal leaves it whole
+kept-refused : (a : Ack) (xs : List ℕ) → Kept xs (refused a xs)
+kept-refused a xs = record { unchanged = λ f. refl; later = λ l d ranges used e. refl }
+
+kept-ranges : (s : List ℕ) (at largest delay count : ℕ) (xs : List ℕ) → Kept xs (readRanges s at largest delay count xs)
+unfolding readRanges Paired
+kept-ranges s at largest delay count xs = go (rangesFrom count s at largest .walk) (paired count s at largest)
+  where
+    ps : List ℕ
+    ps = rangesFrom count s at largest .pairs
+
+    go : (w : Walk) → ((used : ℕ) → w ≡ Whole used → length ps ≡ 2 * suc count) → Kept xs (judged w largest delay count ps xs)
+    go Ends p = kept-refused Cut xs
+    go BelowZero p = kept-refused Below xs
+    go (Whole used) p =
+        pick-all (Kept xs) (leb (2 * (count + 1)) (length xs))
+        (record { unchanged = λ f. absurd (f refl); later = λ l d ranges u e. beyond ranges (length-is ranges e (p used refl)) })
+        (kept-refused NoRoom xs)
+      where
+        length-is : {l d u : ℕ} (ranges : ℕ) → Frame largest delay (count + 1) used ≡ Frame l d ranges u
+            → length ps ≡ 2 * suc count → length ps ≡ 2 * ranges
+        length-is ranges e h = let n : count + 1 ≡ ranges = cc in omega arith
+
+        beyond : (ranges : ℕ) → length ps ≡ 2 * ranges → drop (2 * ranges) (splice xs 0 ps) ≡ drop (2 * ranges) xs
+        beyond ranges h = drop-at ps (drop (0 + length ps) xs) (2 * ranges) h ∙ rw (zero-add, h)
+
+kept : (s xs : List ℕ) → Kept xs (readAck s xs)
+kept s xs =
+    field-all (Kept xs) (readNumber s 0) (kept-refused Cut xs) (λ kind at.
+    pick-all (Kept xs) (eqb kind 0x02)
+    (pick-all (Kept xs) (eqb at (widthOf 0x02))
+    (field-all (Kept xs) (readNumber s at) (kept-refused Cut xs) (λ largest at1.
+    field-all (Kept xs) (readNumber s at1) (kept-refused Cut xs) (λ delay at2.
+    field-all (Kept xs) (readNumber s at2) (kept-refused Cut xs) (λ count at3.
+    kept-ranges s at3 largest delay count xs))))
+    (kept-refused OtherType xs))
+    (kept-refused OtherType xs))
+
+pub ack-unchanged : AckUnchanged
+ack-unchanged s xs = kept s xs .unchanged
+
+pub ack-later : AckLater
+ack-later s xs = kept s xs .later

@@ -1,0 +1,11 @@
+pub mod Types
+pub mod Ranges
+pub mod Answers
+pub mod Standing
+pub mod Back
+pub mod Shortest
+pub mod Rows
+pub mod Exactly
+pub mod Lent
+pub mod Only
+pub mod Examples

@@ -1,0 +1,45 @@
+-- Only one: two results that meet the contract of a public call, as its source states it, are equal, and so are the lent buffers that they leave.
+-- Assumes nothing.
+use mathlib.Core.Path.{sym, _∙_}
+use denote.Ref.{now}
+use Rattle.wire.proofs.Only.{OneAnswer, OneBuffer}
+use Rattle.frames.proofs.read_frequency.Reads as read-frequency
+use Rattle.frames.proofs.read_frequency.Kinds as read-frequency-kinds
+use Rattle.frames.proofs.read_immediate.Reads as read-immediate
+use Rattle.frames.proofs.read_immediate.Kinds as read-immediate-kinds
+use Rattle.frames.proofs.read_ack.Reads as read-ack
+use Rattle.frames.proofs.read_ack.Kinds as read-ack-kinds
+use Rattle.frames.proofs.put_frequency.Reads as put-frequency
+use Rattle.frames.proofs.put_frequency.Kinds as put-frequency-kinds
+use Rattle.frames.proofs.put_immediate.Reads as put-immediate
+use Rattle.frames.proofs.put_immediate.Kinds as put-immediate-kinds
+use Rattle.frames.proofs.Frequency.refusal.Reads as frequency-refusal
+use Rattle.frames.proofs.Frequency.refusal.Kinds as frequency-refusal-kinds
+use Rattle.frames.proofs.Immediate.refusal.Reads as immediate-refusal
+use Rattle.frames.proofs.Immediate.refusal.Kinds as immediate-refusal-kinds
+use Rattle.frames.proofs.Ack.refusal.Reads as ack-refusal
+use Rattle.frames.proofs.Ack.refusal.Kinds as ack-refusal-kinds
+
+pub read-frequency-one : OneAnswer 1 read-frequency-kinds.ps read-frequency-kinds.r read-frequency.Post
+read-frequency-one κs given x y s t p q = p ∙ sym q
+
+pub read-immediate-one : OneAnswer 1 read-immediate-kinds.ps read-immediate-kinds.r read-immediate.Post
+read-immediate-one κs given x y s t p q = p ∙ sym q
+
+pub read-ack-one : OneBuffer 2 read-ack-kinds.ps read-ack-kinds.r (λ κs s. now (s .1 .0)) read-ack.Post
+read-ack-one κs given x y s t p q = (p .0 ∙ sym (q .0), p .1 ∙ sym (q .1))
+
+pub put-frequency-one : OneBuffer 1 put-frequency-kinds.ps put-frequency-kinds.r (λ κs s. now (s .0)) put-frequency.Post
+put-frequency-one κs given x y s t p q = (p .0 ∙ sym (q .0), p .1 ∙ sym (q .1))
+
+pub put-immediate-one : OneBuffer 1 put-immediate-kinds.ps put-immediate-kinds.r (λ κs s. now (s .0)) put-immediate.Post
+put-immediate-one κs given x y s t p q = (p .0 ∙ sym (q .0), p .1 ∙ sym (q .1))
+
+pub frequency-refusal-one : OneAnswer 0 frequency-refusal-kinds.ps frequency-refusal-kinds.r frequency-refusal.Post
+frequency-refusal-one κs given x y s t p q = p ∙ sym q
+
+pub immediate-refusal-one : OneAnswer 0 immediate-refusal-kinds.ps immediate-refusal-kinds.r immediate-refusal.Post
+immediate-refusal-one κs given x y s t p q = p ∙ sym q
+
+pub ack-refusal-one : OneAnswer 0 ack-refusal-kinds.ps ack-refusal-kinds.r ack-refusal.Post
+ack-refusal-one κs given x y s t p q = p ∙ sym q

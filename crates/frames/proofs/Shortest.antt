@@ -1,0 +1,96 @@
+-- An accepted frame in shortest form is what its writer writes: its numbers stand in the bytes, and as long as the writer's they are the writer's.
+-- Assumes nothing.
+use Prim.Native.Nat.{ℕ}
+use mathlib.Core.Path.{_≡_, refl, _∙_}
+use mathlib.Core.Bool.{Bool, true, false}
+use mathlib.Core.List.{List}
+use native.Mathlib.Omega.{arith}
+use borrow.Author.Tests.{eqb-true}
+use lib.Dec.{eqb}
+use lib.ListN.{length, take}
+use Rattle.wire.specs.Bytes.{pick}
+use Rattle.wire.specs.Fields.{field}
+use Rattle.wire.specs.Numbers.{widthOf, encodeAll, readNumber, putBytes}
+use Rattle.wire.specs.declared.Number.{Number}
+use Rattle.wire.specs.declared.Number.the-variants.{Value, Ends}
+use Rattle.wire.proofs.Bytes.{Octets}
+use Rattle.frames.specs.Frames.{typed, readFrequency, readImmediate, frequency, immediate}
+use Rattle.frames.specs.Exactly.{Stand, none, one}
+use Rattle.frames.specs.declared.Frequency.the-variants.{Frame, Ends as Cut, OtherType}
+use Rattle.frames.specs.declared.Immediate.the-variants.{Frame as Alone, Ends as CutAlone, OtherType as Another}
+use Rattle.frames.proofs.Standing.{stand-kept}
+
+-- ---- an answer that is no refusal tells what was read
+
+field-read : {R : Type 0} (r : Number) {x y : R} {f : ℕ → ℕ → R} → field r x f ≡ y → (x ≡ y → ⊥)
+    → (v : ℕ) × (n : ℕ) × (r ≡ Value v n) × (f v n ≡ y)
+field-read (Value v n) e f = (v, n, refl, e)
+field-read Ends e f = absurd (f e)
+
+test-held : {R : Type 0} (b : Bool) {x y z : R} → pick b x z ≡ y → (z ≡ y → ⊥) → (b ≡ true) × (x ≡ y)
+test-held true e f = (refl, e)
+test-held false e f = absurd (f e)
+
+type-read : {R : Type 0} (kind : ℕ) (s : List ℕ) {ends other y : R} (f : ℕ → R)
+    → typed kind s ends other f ≡ y → (ends ≡ y → ⊥) → (other ≡ y → ⊥)
+    → (readNumber s 0 ≡ Value kind (widthOf kind)) × (f (widthOf kind) ≡ y)
+type-read kind s f e not-cut not-other =
+    let r = field-read (readNumber s 0) e not-cut in
+    let a = test-held (eqb (r .0) kind) (r .3) not-other in
+    let b = test-held (eqb (r .1) (widthOf kind)) (a .1) not-other in
+    let m : r .0 ≡ kind = eqb-true (r .0) kind (a .0) in
+    let n : r .1 ≡ widthOf kind = eqb-true (r .1) (widthOf kind) (b .0) in
+    (r .2 ∙ rw (m, n), rw n at (b .1))
+
+-- ---- ACK_FREQUENCY
+
+module _ (s : List ℕ) (q t d r used : ℕ) (e : readFrequency s ≡ Frame q t d r used) where
+  no-cut : Cut ≡ Frame q t d r used → ⊥
+  no-cut h = let z : _≡_ {A = ℕ} 0 1 = cc in omega arith
+
+  no-other : OtherType ≡ Frame q t d r used → ⊥
+  no-other h = let z : _≡_ {A = ℕ} 0 1 = cc in omega arith
+
+  pub frequency-read : Stand s 0 (frequency q t d r) used
+  frequency-read =
+      let k = type-read 0xaf s _ e no-cut no-other in
+      let a = field-read (readNumber s (widthOf 0xaf)) (k .1) no-cut in
+      let b = field-read (readNumber s (a .1)) (a .3) no-cut in
+      let c = field-read (readNumber s (b .1)) (b .3) no-cut in
+      let f = field-read (readNumber s (c .1)) (c .3) no-cut in
+      same (f .3) (one (k .0) (one (a .2) (one (b .2) (one (c .2) (one (f .2) none)))))
+    where
+      same : {q' t' d' r' used' : ℕ} → Frame q' t' d' r' used' ≡ Frame q t d r used → Stand s 0 (frequency q' t' d' r') used'
+          → Stand s 0 (frequency q t d r) used
+      same {q'} {t'} {d'} {r'} {used'} h st =
+          let h1 : q' ≡ q = cc in
+          let h2 : t' ≡ t = cc in
+          let h3 : d' ≡ d = cc in
+          let h4 : r' ≡ r = cc in
+          let h5 : used' ≡ used = cc in
+          rw (h1, h2, h3, h4, h5) at st
+
+  -- "Writers use the shortest": the frame is the writer's, and writing it over s changes nothing
+  pub frequency-shortest : Octets s → used ≡ length (encodeAll (frequency q t d r))
+      → (take used s ≡ encodeAll (frequency q t d r)) × (putBytes s 0 (frequency q t d r) ≡ s)
+  frequency-shortest o l = stand-kept s o frequency-read l
+
+-- ---- IMMEDIATE_ACK
+
+module _ (s : List ℕ) (used : ℕ) (e : readImmediate s ≡ Alone used) where
+  no-cut-alone : CutAlone ≡ Alone used → ⊥
+  no-cut-alone h = let z : _≡_ {A = ℕ} 0 1 = cc in omega arith
+
+  no-another : Another ≡ Alone used → ⊥
+  no-another h = let z : _≡_ {A = ℕ} 0 1 = cc in omega arith
+
+  pub immediate-read : Stand s 0 immediate used
+  immediate-read =
+      let k = type-read 0x1f s Alone e no-cut-alone no-another in
+      same (k .1) (one (k .0) none)
+    where
+      same : {used' : ℕ} → Alone used' ≡ Alone used → Stand s 0 immediate used' → Stand s 0 immediate used
+      same {used'} h st = let h1 : used' ≡ used = cc in rw h1 at st
+
+  pub immediate-shortest : Octets s → used ≡ length (encodeAll immediate) → (take used s ≡ encodeAll immediate) × (putBytes s 0 immediate ≡ s)
+  immediate-shortest o l = stand-kept s o immediate-read l

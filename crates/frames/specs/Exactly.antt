@@ -1,0 +1,108 @@
+-- The rows of the refusal table for the three frames: each number is given exactly when its row says, in the table's order.
+use Prim.Native.Nat.{ℕ, _+_, _-_, _*_, _≤_, _<_}
+use mathlib.Core.Path.{_≡_}
+use mathlib.Core.Logic.{_↔_, _⊎_}
+use mathlib.Core.List.{List, [], _∷_}
+use lib.ListN.{length, getD, drop}
+use Rattle.wire.specs.Numbers.{widthOf, readNumber}
+use Rattle.wire.specs.declared.Number.the-variants.{Value, Ends}
+use Rattle.frames.specs.Frames.{readFrequency, readImmediate}
+use Rattle.frames.specs.Ack.{readAck}
+use Rattle.frames.specs.Refusals.{frequencyRefusal, immediateRefusal, ackRefusal}
+use Rattle.frames.specs.declared.Ack.the-variants.{Frame}
+
+-- ---- what stands in the bytes
+
+-- the numbers stand one after the other from at on, and next is the place after them
+pub data Stand (s : List ℕ) : ℕ → List ℕ → ℕ → Type 0 where
+  none : {at : ℕ} → Stand s at [] at
+  one : {at v mid next : ℕ} {vs : List ℕ} → readNumber s at ≡ Value v mid → Stand s mid vs next → Stand s at (v ∷ vs) next
+
+-- numbers of which P holds stand from at on
+pub record From (s : List ℕ) (at : ℕ) (P : List ℕ → ℕ → Type 0) : Type 0 where
+  pub numbers : List ℕ
+  pub next : ℕ
+  pub stand : Stand s at numbers next
+  pub holds : P numbers next
+
+-- the type is kind in its shortest form, and numbers of which P holds stand after it
+pub record After (kind : ℕ) (s : List ℕ) (P : List ℕ → ℕ → Type 0) : Type 0 where
+  pub type : readNumber s 0 ≡ Value kind (widthOf kind)
+  pub fields : From s (widthOf kind) P
+
+-- ---- the rows
+
+-- 3: the type is a whole number, and another one or not in shortest form
+pub record OtherType (kind : ℕ) (s : List ℕ) : Type 0 where
+  pub value : ℕ
+  pub next : ℕ
+  pub whole : readNumber s 0 ≡ Value value next
+  pub other : (value ≡ kind) × (next ≡ widthOf kind) → ⊥
+
+-- 2: the bytes end inside the type, or, the type being right, inside a number that those before it ask for
+abbrev pub Cut : ℕ → List ℕ → (List ℕ → Type 0) → Type 0
+Cut kind s Asks = (readNumber s 0 ≡ Ends) ⊎ After kind s (λ vs next. Asks vs × (readNumber s next ≡ Ends))
+
+-- a frame of n numbers after its type
+pub record Reads (kind n : ℕ) (s : List ℕ) (refusal : ℕ) : Type 0 where
+  pub three : refusal ≡ 3 ↔ OtherType kind s
+  pub two : refusal ≡ 2 ↔ Cut kind s (λ vs. length vs < n)
+  pub accepted : refusal ≡ 0 ↔ After kind s (λ vs next. length vs ≡ n)
+
+-- ACK_FREQUENCY: four numbers
+abbrev pub FrequencyReads : Type 0
+FrequencyReads = (s : List ℕ) → Reads 0xaf 4 s (frequencyRefusal (readFrequency s))
+
+-- IMMEDIATE_ACK: "type 1f alone"
+abbrev pub ImmediateReads : Type 0
+ImmediateReads = (s : List ℕ) → Reads 0x1f 0 s (immediateRefusal (readImmediate s))
+
+-- ---- ACK: vs are the numbers after its type, as far as they were read
+
+-- the first of them
+abbrev pub largest : List ℕ → ℕ
+largest vs = getD vs 0 0
+
+-- the third of them
+abbrev pub count : List ℕ → ℕ
+count vs = getD vs 2 0
+
+-- how many the frame has: "largest, delay, range count, first range, then gap and length pairs"
+abbrev pub asked : List ℕ → ℕ
+asked vs = 4 + 2 * count vs
+
+-- how far lengths and gaps lead down, in turn: a length as far as it says, and a gap 2 further
+unfoldable pub down : ℕ → List ℕ → ℕ
+down further [] = 0
+down further (v ∷ vs) = v + further + down (2 - further) vs
+
+-- 14: from the largest the ranges lead below number 0
+abbrev pub Below : List ℕ → Type 0
+Below vs = largest vs < down 0 (drop 3 vs)
+
+-- they do not, so far
+abbrev pub NotBelow : List ℕ → Type 0
+NotBelow vs = down 0 (drop 3 vs) ≤ largest vs
+
+-- 14 and 2 are judged number by number, and 9 last: two elements of room for each range
+pub record ReadsAck (s : List ℕ) (room refusal : ℕ) : Type 0 where
+  pub three : refusal ≡ 3 ↔ OtherType 0x02 s
+  pub two : refusal ≡ 2 ↔ Cut 0x02 s (λ vs. (length vs < asked vs) × NotBelow vs)
+  pub fourteen : refusal ≡ 14 ↔ After 0x02 s (λ vs next. (length vs ≤ asked vs) × Below vs)
+  pub nine : refusal ≡ 9 ↔ After 0x02 s (λ vs next. (length vs ≡ asked vs) × NotBelow vs × (room < 2 * (count vs + 1)))
+  pub accepted : refusal ≡ 0 ↔ After 0x02 s (λ vs next. (length vs ≡ asked vs) × NotBelow vs × (2 * (count vs + 1) ≤ room))
+
+-- ACK, with the lent slice xs
+abbrev pub AckReads : Type 0
+AckReads = (s xs : List ℕ) → ReadsAck s (length xs) (ackRefusal (readAck s xs .answer))
+
+-- ---- the lent slice
+
+-- a refused call leaves it as it was
+abbrev pub AckUnchanged : Type 0
+AckUnchanged = (s xs : List ℕ) → (ackRefusal (readAck s xs .answer) ≡ 0 → ⊥) → readAck s xs .slice ≡ xs
+
+-- an accepted one "touches no later element"
+abbrev pub AckLater : Type 0
+AckLater =
+    (s xs : List ℕ) (l d ranges used : ℕ) → readAck s xs .answer ≡ Frame l d ranges used → drop (2 * ranges) (readAck s xs .slice) ≡ drop (2 * ranges) xs

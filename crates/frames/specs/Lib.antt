@@ -1,0 +1,4 @@
+pub mod Frames
+pub mod Ack
+pub mod Refusals
+pub mod Exactly
