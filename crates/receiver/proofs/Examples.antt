@@ -1,0 +1,14 @@
+-- P4, P5 and P8 hold on the definitions: antt computes them.
+-- Assumes nothing.
+use mathlib.Core.Path.{refl}
+use Rattle.window.specs.Words.{numberOf, wordsOf, bit}
+use Rattle.window.specs.Window.{firstClear}
+use Rattle.receiver.specs.Record.{limitsRule, delayRule, seenConsistent, pendingConsistent, agreedConsistent, consistent}
+use Rattle.receiver.specs.Packet.{numberRefusal, packetRefusal, seenAfter, pendingAfter, firstMissing, outOfOrder, gapReached, order, congestion, firstCause, causeAfter, packetAfter, packetCall}
+use Rattle.receiver.specs.Calls.{opened}
+use Rattle.receiver.specs.Write.{written}
+use Rattle.receiver.specs.Examples.{dues, Arrivals}
+
+pub arrivals : Arrivals
+unfolding dues opened packetCall packetRefusal numberRefusal consistent seenConsistent pendingConsistent agreedConsistent limitsRule delayRule packetAfter seenAfter pendingAfter causeAfter firstCause order outOfOrder gapReached firstMissing congestion written numberOf wordsOf bit firstClear
+arrivals = record { P4 = refl; P5 = refl; P8-in = refl; P8-below = refl }

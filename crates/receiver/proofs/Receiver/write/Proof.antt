@@ -1,0 +1,103 @@
+-- `receiver::Receiver::write` meets its contract: the refusals in the definition's order, and then the frame that `kept` and `store` make.
+-- Assumes nothing.
+use mathlib.Core.Path.{_≡_}
+use mathlib.Core.Bool.{true}
+use native.Mathlib.Omega.{arith}
+use borrow.Author.Needs.{needs}
+use Rattle.receiver.specs.Record.{small, consistent}
+use Rattle.receiver.proofs.Tests.{failed, held}
+use Rattle.receiver.proofs.Written.{consistent-seen, some-end, gives-one, gives-five, gives-eight, refused, small-delay, wrote-none, some-kept, wrote-frame}
+use Rattle.receiver.proofs.Receiver.write.Statement.{statement}
+use Rattle.receiver.proofs.Receiver.write.Tie as tie
+
+-- the entry, from the test of the time, and what the tests so far said
+abbrev entry : tie.Else2 → tie.Start
+entry c = c .before .before .before .before .before
+
+whole : (c : tie.Else2) → consistent (entry c .args .self) ≡ true
+whole c = held (c .before .before .before .consistent .ensures) (c .before .before .if1 .left)
+
+timely : (c : tie.Else2) → small (entry c .args .time .0) ≡ true
+timely c = held (c .before .is-small .ensures) (c .if2 .left)
+
+consistent-requires : tie.Need-consistent-requires
+consistent-requires c κs = search needs
+
+returns : tie.Need-returns
+returns c =
+    let a = c .before .before .before .args in
+    refused (a .self) (a .time) (a .buf .now) 0 (gives-one _ _ _ (failed (c .before .consistent .ensures) (c .if1 .taken)))
+
+is-small-requires : tie.Need-is-small-requires
+is-small-requires c κs = search needs
+
+returns-2 : tie.Need-returns-2
+returns-2 c =
+    let a = c .before .before .before .before .before .args in
+    refused (a .self) (a .time) (a .buf .now) 4
+    (gives-five _ _ _ (held (c .before .before .before .consistent .ensures) (c .before .before .if1 .left)) (failed (c .before .is-small .ensures) (c .if2 .taken)))
+
+returns-3 : tie.Need-returns-3
+returns-3 c =
+    let k = c .before .before .before in
+    let a = entry k .args in
+    refused (a .self) (a .time) (a .buf .now) 7 (gives-eight _ _ _ (whole k) (timely k) (c .if3 .taken))
+
+less-requires : tie.Need-less-requires
+less-requires c κs = search needs
+
+kept-requires : tie.Need-kept-requires
+kept-requires c κs =
+    let k = c .before .before .before .before in
+    let a = entry k .args in (
+      consistent-seen _ (whole k),
+      some-end (c .before .if3 .left),
+      small-delay (a .self) (a .time) (a .buf .now) (whole k) (timely k) (c .before .if3 .left) (c .less .ensures),
+      omega (arith, entry k .good .1 .1 .0 .1),
+    )
+
+returns-4 : tie.Need-returns-4
+returns-4 c =
+    let l = c .before .before in
+    let k = l .before .before .before .before in
+    let a = entry k .args in
+    wrote-none (a .self) (a .time) (a .buf .now) (whole k) (timely k) (l .before .if3 .left) (l .less .ensures) (c .before .kept .ensures) (c .if4 .taken)
+
+store-requires : tie.Need-store-requires
+store-requires c κs =
+    let l = c .before .before .before in
+    let k = l .before .before .before .before in
+    let a = entry k .args in
+    let m = some-kept (a .self) (a .time) (a .buf .now) (whole k) (timely k) (l .before .if3 .left) (l .less .ensures) (c .before .before .kept .ensures) (c .before .if4 .left) in
+    (consistent-seen _ (whole k), some-end (l .before .if3 .left), small-delay (a .self) (a .time) (a .buf .now) (whole k) (timely k) (l .before .if3 .left) (l .less .ensures), m .0, m .1, m .2)
+
+written-requires : tie.Need-written-requires
+written-requires c κs = search needs
+
+same-length : tie.Need-same-length
+same-length c = search needs
+
+returns-5 : tie.Need-returns-5
+returns-5 c =
+    let s = c .before .before .before in
+    let l = s .before .before .before .before in
+    let k = l .before .before .before .before in
+    let a = entry k .args in
+    wrote-frame (a .self) (a .time) (a .buf .now) (whole k) (timely k) (l .before .if3 .left) (l .less .ensures) (s .before .before .before .kept .ensures) (s .before .before .if4 .left) (s .store .ensures .0) (s .store .ensures .1) (c .written .ensures)
+
+pub write-spec : {M : Type 1} → statement M
+write-spec =
+    tie.close
+    (tie.spec
+    consistent-requires
+    returns
+    is-small-requires
+    returns-2
+    returns-3
+    less-requires
+    kept-requires
+    returns-4
+    store-requires
+    written-requires
+    same-length
+    returns-5)

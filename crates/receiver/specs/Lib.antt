@@ -1,0 +1,9 @@
+pub mod Record
+pub mod Consistent
+pub mod Packet
+pub mod Calls
+pub mod Write
+pub mod Exactly
+pub mod Emits
+pub mod Examples
+pub mod Settled

@@ -1,0 +1,135 @@
+-- "Packet": refusals 1, 5, 6, 7; what an accepted packet marks and raises; the causes count, order and congestion.
+use Prim.Native.Nat.{ℕ, zero, suc, _+_, _-_, _/_, _^_, min, max}
+use mathlib.Core.Bool.{Bool, true, false, not, _&&_, _||_}
+use lib.Dec.{leb, ltb, eqb}
+use Rattle.wire.specs.Bytes.{pick}
+use Rattle.window.specs.Window.{valueOf, windowOf, isSet, withBit, firstClear}
+use Rattle.window.specs.declared.Window.{Window}
+use Rattle.window.specs.declared.Missing.{Missing}
+use Rattle.window.specs.declared.Missing.the-variants.{At, Nothing}
+use Rattle.receiver.specs.declared.Micros.{Micros}
+use Rattle.receiver.specs.declared.Seen.{Seen}
+use Rattle.receiver.specs.declared.Pending.{Pending}
+use Rattle.receiver.specs.declared.Receiver.{Receiver}
+use Rattle.receiver.specs.declared.Answer.{Answer}
+use Rattle.receiver.specs.Record.{small, floor, placeOf, received, consistent}
+
+-- ---- refusals
+
+-- "7: the packet number lies below the window; 6: [it] lies in the window and was received"
+unfoldable pub numberRefusal : Seen → ℕ → ℕ
+numberRefusal s n = pick (leb (s .end) n) 0 (pick (ltb n (floor (s .end))) 7 (pick (received s n) 6 0))
+
+-- "Order: 1 first. Number arguments next, giving 5. Then [..] 6, 7"
+unfoldable pub packetRefusal : Receiver → ℕ → Micros → ℕ
+packetRefusal r n time = pick (consistent r) (pick (small n && small (time .0)) (numberRefusal (r .seen) n) 5) 1
+
+-- ---- "Accepted packets are marked and L moves if exceeded"
+
+abbrev pub markAt : Window → ℕ → Window
+markAt w place = windowOf (withBit (valueOf w) place)
+
+abbrev pub moveOn : Window → ℕ → Window
+moveOn w d = windowOf (valueOf w / 2 ^ d)
+
+unfoldable pub seenAfter : Seen → ℕ → Micros → Seen
+seenAfter s n time =
+    pick (ltb n (s .end))
+    (record { window = markAt (s .window) (placeOf (s .end) n); end = s .end; arrived = s .arrived })
+    (record { window = markAt (moveOn (s .window) (n + 1 - s .end)) 1023; end = n + 1; arrived = time })
+
+-- "An ack-eliciting one raises N, H and U as needed"; "At 2^62, N stays"
+unfoldable pub pendingAfter : Pending → ℕ → Micros → Pending
+pendingAfter p n time =
+    record { count = min (p .count + 1) (2 ^ 62); end = max (p .end) (n + 1); first = pick (eqb (p .count) 0) time (p .first) }
+
+-- ---- the causes; seen and pending are as the packet leaves them
+
+-- "missing numbers are sought only in the window as it stands after this packet": the place of the first from `from` up to below `to`
+unfoldable pub firstMissing : Seen → ℕ → ℕ → Missing
+firstMissing s from to =
+    let low = placeOf (s .end) (max from (floor (s .end))) in
+    firstClear (placeOf (s .end) to - low) low (valueOf (s .window))
+
+abbrev pub isAny : Missing → Bool
+isAny (At place) = true
+isAny Nothing = false
+
+-- "R = 1: the number is below the earlier H, or it is above H and a number strictly between is missing; with no earlier H, all numbers from 0 up to it count as between"
+unfoldable pub outOfOrder : Seen → ℕ → ℕ → Bool
+outOfOrder s n highest = ltb (n + 1) highest || isAny (firstMissing s highest n)
+
+-- U - m >= R for the missing number m at a place, where U's end is `end`
+abbrev pub reaches : Seen → ℕ → ℕ → Missing → Bool
+reaches s reach end (At place) = leb (place + s .end - 1024 + reach) (end - 1)
+reaches s reach end Nothing = false
+
+-- "R from 2 up: the smallest unreported missing number m has U - m >= R. Unreported missing numbers are those not received, below U, and above A - R"
+unfoldable pub gapReached : Seen → ℕ → ℕ → ℕ → Bool
+gapReached s reach acknowledged end = reaches s reach end (firstMissing s (acknowledged - reach) (end - 1))
+
+-- "3, order. R = 0: never"; "An R above 1,023 acts as 1,023"
+unfoldable pub order : Seen → ℕ → ℕ → ℕ → ℕ → ℕ → Bool
+order s zero n highest acknowledged end = false
+order s (suc zero) n highest acknowledged end = outOfOrder s n highest
+order s (suc (suc r)) n highest acknowledged end = gapReached s (min (suc (suc r)) 1023) acknowledged end
+
+-- "4, congestion: this packet has CE and the previously accepted packet, of either kind, had not, or there was none"
+unfoldable pub congestion : Receiver → Bool → Bool
+congestion r marked = marked && (eqb (r .seen .end) 0 || not (r .marked))
+
+-- "the first that holds becomes the cause", 2 being "count: N > T"
+unfoldable pub firstCause : Receiver → ℕ → Bool → Seen → Pending → ℕ
+firstCause r n marked s p =
+    pick (ltb (r .agreed .threshold) (p .count)) 2
+    (pick (order s (r .agreed .reordering) n (r .highest) (r .acknowledged) (p .end)) 3 (pick (congestion r marked) 4 0))
+
+-- "If no cause stands": a standing one stays
+abbrev pub standing : ℕ → ℕ → ℕ
+standing zero new = new
+standing (suc cause) new = suc cause
+
+unfoldable pub causeAfter : Receiver → ℕ → Bool → Seen → Pending → ℕ
+causeAfter r n marked s p = standing (r .cause) (firstCause r n marked s p)
+
+-- ---- the call
+
+-- either kind: the window and the CE mark
+abbrev pub plainAfter : Receiver → ℕ → Micros → Bool → Receiver
+plainAfter r n time marked =
+    record {
+      seen = seenAfter (r .seen) n time;
+      pending = r .pending;
+      agreed = r .agreed;
+      limits = r .limits;
+      acknowledged = r .acknowledged;
+      highest = r .highest;
+      marked = marked;
+      cause = r .cause;
+    }
+
+-- an ack-eliciting one also N, U, H and the cause; q is the record with its window and mark
+abbrev pub elicitingAfter : Receiver → Receiver → ℕ → Micros → Receiver
+elicitingAfter r q n time =
+    record {
+      seen = q .seen;
+      pending = pendingAfter (r .pending) n time;
+      agreed = q .agreed;
+      limits = q .limits;
+      acknowledged = q .acknowledged;
+      highest = max (r .highest) (n + 1);
+      marked = q .marked;
+      cause = causeAfter r n (q .marked) (q .seen) (pendingAfter (r .pending) n time);
+    }
+
+-- "A packet that is not ack-eliciting never sets a cause"
+unfoldable pub packetAfter : Receiver → ℕ → Micros → Bool → Bool → Receiver
+packetAfter r n time eliciting marked = pick eliciting (elicitingAfter r (plainAfter r n time marked) n time) (plainAfter r n time marked)
+
+-- "A refusal returns its number and the record as it came in"
+abbrev pub judged : ℕ → Receiver → Receiver → Answer
+judged zero old new = record { result = 0; next = new }
+judged (suc refusal) old new = record { result = suc refusal; next = old }
+
+unfoldable pub packetCall : Receiver → ℕ → Micros → Bool → Bool → Answer
+packetCall r n time eliciting marked = judged (packetRefusal r n time) r (packetAfter r n time eliciting marked)

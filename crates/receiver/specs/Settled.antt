@@ -1,0 +1,31 @@
+-- The settled examples P6 and P7, on the definitions.
+use Prim.Native.Nat.{ℕ}
+use mathlib.Core.Path.{_≡_}
+use mathlib.Core.List.{List, [], _∷_}
+use lib.ListN.{replicate}
+use Rattle.receiver.specs.declared.Micros.{Micros}
+use Rattle.receiver.specs.declared.Receiver.{Receiver}
+use Rattle.receiver.specs.Write.{writeAnswer, writeBytes}
+use Rattle.receiver.specs.Examples.{started, arrival}
+
+-- arrivals one after the other, at time 0
+unfoldable pub arrived : Receiver → List ℕ → Receiver
+arrived r [] = r
+arrived r (n ∷ ns) = arrived (arrival r n .next) ns
+
+-- "0, 1, 3, 4, 5 received"
+abbrev pub five : Receiver
+five = arrived (started 3) (0 ∷ 1 ∷ 3 ∷ 4 ∷ 5 ∷ [])
+
+-- "no delay"
+abbrev pub atOnce : Micros
+atOnce = record { 0 = 0 }
+
+pub record Frames : Type 0 where
+  -- "02 05 00 01 02 00 01"
+  pub P6 : writeBytes five atOnce (replicate 7 0) ≡ 0x02 ∷ 0x05 ∷ 0x00 ∷ 0x01 ∷ 0x02 ∷ 0x00 ∷ 0x01 ∷ []
+  -- "the same in room 5 or 6: 02 05 00 00 02"; in room 6 the last byte stays
+  pub P7-five : writeBytes five atOnce (replicate 5 0) ≡ 0x02 ∷ 0x05 ∷ 0x00 ∷ 0x00 ∷ 0x02 ∷ []
+  pub P7-six : writeBytes five atOnce (replicate 6 0xff) ≡ 0x02 ∷ 0x05 ∷ 0x00 ∷ 0x00 ∷ 0x02 ∷ 0xff ∷ []
+  -- "room 4: refusal 9"
+  pub P7-four : writeAnswer five atOnce (replicate 4 0) .result ≡ 9

@@ -1,0 +1,224 @@
+// Opening, timer, threshold frame and IMMEDIATE_ACK.
+ghost use mathlib.Core.Path.{_≡_};
+ghost use Prim.Native.Nat.{_<_};
+ghost use mathlib.Core.Bool.{true};
+ghost use Rattle.receiver.specs.Record.{microsOf};
+ghost use Rattle.receiver.specs.Packet.{standing};
+ghost use Rattle.receiver.specs.Calls.{opened, usual, openCall, timerDue, timerCall, immediateCall, heard, thresholdCall};
+ghost use Rattle.receiver.specs.declared.Verdict.the-variants.{Stale};
+use crate::Agreed;
+use crate::Answer;
+use crate::Heard;
+use crate::Limits;
+use crate::Micros;
+use crate::Millis;
+use crate::Pending;
+use crate::Receiver;
+use crate::Seen;
+use crate::Verdict;
+use crate::numbers;
+use window::Window;
+
+// A cause, once set, stays.
+fn standing(cause: u64, new: u64) -> u64
+    ensures { λ r. ⌜ r ≡ standing cause new ⌝ }
+{
+    match cause {
+        0 => new,
+        _ => cause,
+    }
+}
+
+impl Heard {
+    // A stale frame changes nothing: its values are in no part of the record.
+    fn stale(kept: Receiver) -> Heard
+        ensures { λ r. ⌜ r ≡ heard Stale kept kept ⌝ }
+    {
+        Heard {
+            verdict: Verdict::Stale,
+            next: kept,
+        }
+    }
+}
+
+impl Receiver {
+    // The record of an opening.
+    fn opened(threshold: u64, reordering: u64, maximum: Millis, minimum: Micros) -> Receiver
+        requires { ⌜ maximum .0 < 16384 ⌝ }
+        ensures { λ r. ⌜ r ≡ opened threshold reordering maximum minimum ⌝ }
+    {
+        let window = Window::empty();
+        let delay = maximum.micros();
+        Receiver {
+            seen: Seen {
+                window,
+                end: 0,
+                arrived: Micros(0),
+            },
+            pending: Pending {
+                count: 0,
+                end: 0,
+                first: Micros(0),
+            },
+            agreed: Agreed {
+                threshold,
+                reordering,
+                delay,
+                sequence: 0,
+            },
+            limits: Limits { maximum, minimum },
+            acknowledged: 0,
+            highest: 0,
+            marked: false,
+            cause: 0,
+        }
+    }
+
+    // The usual opening beside a refusal number.
+    fn refused_opening(result: u64) -> Answer
+        ensures { λ r. ⌜ r ≡ record { result = result; next = usual } ⌝ }
+    {
+        let next = Receiver::opened(1, 1, Millis(25), Micros(1000));
+        Answer { result, next }
+    }
+
+    // Opens a receiver: T, R, the own maximum delay and the own minimum delay.
+    pub fn open(threshold: u64, reordering: u64, maximum: Millis, minimum: Micros) -> Answer
+        ensures { λ r. ⌜ r ≡ openCall threshold reordering maximum minimum ⌝ }
+    {
+        if !numbers::is_small(threshold) {
+            return Receiver::refused_opening(5);
+        }
+        if !numbers::is_small(reordering) {
+            return Receiver::refused_opening(5);
+        }
+        if !numbers::is_small(maximum.0) {
+            return Receiver::refused_opening(5);
+        }
+        if !numbers::is_small(minimum.0) {
+            return Receiver::refused_opening(5);
+        }
+        let limits = Limits { maximum, minimum };
+        if !limits.allowed() {
+            return Receiver::refused_opening(4);
+        }
+        let next = Receiver::opened(threshold, reordering, maximum, minimum);
+        Answer { result: 0, next }
+    }
+
+    // An IMMEDIATE_ACK frame arrives.
+    pub fn immediate(self) -> Answer
+        ensures { λ r. ⌜ r ≡ immediateCall self ⌝ }
+    {
+        if !self.consistent() {
+            return Answer {
+                result: 1,
+                next: self,
+            };
+        }
+        let seen = self.seen;
+        if seen.end == 0 {
+            return Answer {
+                result: 8,
+                next: self,
+            };
+        }
+        let mut next = self;
+        next.cause = standing(self.cause, 1);
+        Answer { result: 0, next }
+    }
+
+    // Whether the time since the first unacknowledged arrival has reached the delay in force.
+    fn timer_due(self, time: Micros) -> bool
+        ensures { λ r. ⌜ r ≡ timerDue self time ⌝ }
+    {
+        let pending = self.pending;
+        if pending.count == 0 {
+            return false;
+        }
+        let agreed = self.agreed;
+        agreed.delay.0 <= numbers::less(time.0, pending.first.0)
+    }
+
+    // The timer is looked at.
+    pub fn timer(self, time: Micros) -> Answer
+        ensures { λ r. ⌜ r ≡ timerCall self time ⌝ }
+    {
+        if !self.consistent() {
+            return Answer {
+                result: 1,
+                next: self,
+            };
+        }
+        if !numbers::is_small(time.0) {
+            return Answer {
+                result: 5,
+                next: self,
+            };
+        }
+        let mut next = self;
+        if self.timer_due(time) {
+            next.cause = standing(self.cause, 5);
+        }
+        Answer { result: 0, next }
+    }
+
+    // An ACK_FREQUENCY frame arrives: its sequence, T, requested delay and R.
+    pub fn threshold(self, sequence: u64, threshold: u64, delay: Micros, reordering: u64) -> Heard
+        ensures { λ r. ⌜ r ≡ thresholdCall self sequence threshold delay reordering ⌝ }
+    {
+        if !self.consistent() {
+            return Heard {
+                verdict: Verdict::Refused(1),
+                next: self,
+            };
+        }
+        if !numbers::is_small(sequence) {
+            return Heard {
+                verdict: Verdict::Refused(5),
+                next: self,
+            };
+        }
+        if !numbers::is_small(threshold) {
+            return Heard {
+                verdict: Verdict::Refused(5),
+                next: self,
+            };
+        }
+        if !numbers::is_small(delay.0) {
+            return Heard {
+                verdict: Verdict::Refused(5),
+                next: self,
+            };
+        }
+        if !numbers::is_small(reordering) {
+            return Heard {
+                verdict: Verdict::Refused(5),
+                next: self,
+            };
+        }
+        let limits = self.limits;
+        if !limits.allow(delay) {
+            return Heard {
+                verdict: Verdict::Refused(4),
+                next: self,
+            };
+        }
+        let agreed = Agreed {
+            threshold,
+            reordering,
+            delay,
+            sequence: sequence + 1,
+        };
+        let mut next = self;
+        next.agreed = agreed;
+        let before = self.agreed;
+        if sequence < before.sequence {
+            return Heard::stale(self);
+        }
+        Heard {
+            verdict: Verdict::Accepted,
+            next,
+        }
+    }
+}

@@ -1,0 +1,145 @@
+// The packet call: 1, 5, then 6 or 7; an accepted packet is marked, and an ack-eliciting one may set a cause.
+ghost use mathlib.Core.Path.{_≡_};
+ghost use Prim.Native.Nat.{_<_, _≤_, _^_};
+ghost use mathlib.Core.Bool.{true};
+ghost use Rattle.receiver.specs.Record.{consistent};
+ghost use Rattle.receiver.specs.Packet.{packetRefusal, numberRefusal, seenAfter, pendingAfter, packetAfter, packetCall};
+use crate::Answer;
+use crate::Micros;
+use crate::Pending;
+use crate::Receiver;
+use crate::Seen;
+use crate::numbers;
+
+impl Seen {
+    // 7 below the window, 6 in it and received, 0 for a number that can be accepted.
+    fn refusal(self, number: u64) -> u64
+        requires { ⌜ number < 2 ^ 62 ⌝ }
+        ensures { λ r. ⌜ r ≡ numberRefusal self number ⌝ }
+    {
+        let end = self.end;
+        if end <= number {
+            return 0;
+        }
+        if number < numbers::less(end, 1024) {
+            return 7;
+        }
+        let window = self.window;
+        if window.is_marked(numbers::place_of(end, number)) {
+            return 6;
+        }
+        0
+    }
+
+    // With the number marked; L moves if it is exceeded.
+    fn with(self, number: u64, time: Micros) -> Seen
+        requires { ⌜ number < 2 ^ 62 ⌝ }
+        ensures { λ r. ⌜ r ≡ seenAfter self number time ⌝ }
+    {
+        let end = self.end;
+        let window = self.window;
+        if number < end {
+            let next = window.mark(numbers::place_of(end, number));
+            let arrived = self.arrived;
+            return Seen {
+                window: next,
+                end,
+                arrived,
+            };
+        }
+        let moved = window.advanced(number + 1 - end);
+        let next = moved.mark(1023);
+        Seen {
+            window: next,
+            end: number + 1,
+            arrived: time,
+        }
+    }
+}
+
+impl Pending {
+    // With one ack-eliciting packet more; at 2^62 the count stays.
+    fn with(self, number: u64, time: Micros) -> Pending
+        requires { ⌜ (number < 2 ^ 62) × (self .count ≤ 2 ^ 62) ⌝ }
+        ensures { λ r. ⌜ r ≡ pendingAfter self number time ⌝ }
+    {
+        let end = numbers::larger(self.end, number + 1);
+        let count = self.count;
+        match count {
+            0 => Pending {
+                count: 1,
+                end,
+                first: time,
+            },
+            4611686018427387904 => {
+                let first = self.first;
+                Pending { count, end, first }
+            }
+            _ => {
+                let first = self.first;
+                Pending {
+                    count: count + 1,
+                    end,
+                    first,
+                }
+            }
+        }
+    }
+}
+
+impl Receiver {
+    // The record with an accepted packet.
+    fn with(self, number: u64, time: Micros, eliciting: bool, marked: bool) -> Receiver
+        requires { ⌜ (number < 2 ^ 62) × (consistent self ≡ true) ⌝ }
+        ensures { λ r. ⌜ r ≡ packetAfter self number time eliciting marked ⌝ }
+    {
+        let before = self.seen;
+        let seen = before.with(number, time);
+        let mut next = self;
+        next.seen = seen;
+        next.marked = marked;
+        if !eliciting {
+            return next;
+        }
+        let waiting = self.pending;
+        let pending = waiting.with(number, time);
+        next.pending = pending;
+        next.highest = numbers::larger(self.highest, number + 1);
+        next.cause = self.cause_after(number, marked, seen, pending);
+        next
+    }
+
+    // A packet arrives: its number, its time, whether it is ack-eliciting, whether it has the CE mark.
+    pub fn packet(self, number: u64, time: Micros, eliciting: bool, marked: bool) -> Answer
+        ensures { λ r. ⌜ r ≡ packetCall self number time eliciting marked ⌝ }
+    {
+        if !self.consistent() {
+            return Answer {
+                result: 1,
+                next: self,
+            };
+        }
+        if !numbers::is_small(number) {
+            return Answer {
+                result: 5,
+                next: self,
+            };
+        }
+        if !numbers::is_small(time.0) {
+            return Answer {
+                result: 5,
+                next: self,
+            };
+        }
+        let seen = self.seen;
+        let refusal = seen.refusal(number);
+        if refusal != 0 {
+            return Answer {
+                result: refusal,
+                next: self,
+            };
+        }
+        let next = self.with(number, time, eliciting, marked);
+        Answer { result: 0, next }
+    }
+}

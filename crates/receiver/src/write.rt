@@ -1,0 +1,157 @@
+// The write call: an ACK frame of as many newest ranges of the window as fit the lent buffer.
+ghost use mathlib.Core.Path.{_≡_};
+ghost use mathlib.Core.Bool.{true, false};
+ghost use Prim.Native.Nat.{_-_, _^_, _≤_, _<_};
+ghost use lib.ListN.{length};
+ghost use Rattle.wire.specs.Numbers.{limit};
+ghost use Rattle.wire.specs.Bytes.{splice};
+ghost use Rattle.window.specs.Window.{valueOf, runBelow};
+ghost use Rattle.receiver.specs.Record.{seenConsistent};
+ghost use Rattle.receiver.specs.Write.{numberOfRanges, frame, kept, written, writeAnswer, writeBytes};
+use crate::Micros;
+use crate::Pending;
+use crate::Receiver;
+use crate::Seen;
+use crate::Wrote;
+use crate::numbers;
+use wire::Put;
+
+// A range by its size, and by how many numbers are missing between it and the place above; of size 0 where there is none.
+struct Range {
+    missing: u64,
+    size: u64,
+}
+
+impl Seen {
+    // The newest range below a place.
+    fn range_below(self, place: u64) -> Range
+        ensures { λ r. ⌜ (r .missing ≡ runBelow false place (valueOf (self .window))) × (r .size ≡ runBelow true (place - runBelow false place (valueOf (self .window))) (valueOf (self .window))) ⌝ }
+    {
+        let window = self.window;
+        let missing = window.run_below(place, false);
+        let size = window.run_below(place - missing, true);
+        Range { missing, size }
+    }
+
+    // How many of the newest ranges fit the room: 0 where not even the first does.
+    fn kept(self, delay: u64, room: usize) -> u64
+        requires { ⌜ (seenConsistent self ≡ true) × (0 < self .end) × (delay ≤ limit) × (room < 2 ^ 63) ⌝ }
+        ensures { λ r. ⌜ r ≡ kept self delay room ⌝ }
+    {
+        let first = self.range_below(1024);
+        // The bytes of the frame so far, without its range count.
+        let mut bytes = 1
+            + wire::width(self.end - 1)
+            + wire::width(delay)
+            + wire::width(first.size - 1);
+        if room < bytes + 1 {
+            return 0;
+        }
+        let mut count: u64 = 1;
+        let mut low = 1024 - first.size;
+        while 0 < low {
+            let range = self.range_below(low);
+            if range.size == 0 {
+                return count;
+            }
+            bytes = bytes + wire::width(range.missing - 1) + wire::width(range.size - 1);
+            if room < bytes + wire::width(count) {
+                return count;
+            }
+            count += 1;
+            low = low - range.missing - range.size;
+        }
+        count
+    }
+
+    // Writes the frame with the count newest ranges, and answers its length.
+    fn store(self, delay: u64, count: u64, buf: &mut [u8]) -> usize
+        requires { ⌜ (seenConsistent self ≡ true) × (0 < self .end) × (delay ≤ limit) × (0 < count) × (count ≤ numberOfRanges self) × (length (frame self delay count) ≤ length (now buf)) ⌝ }
+        ensures { λ r. ⌜ (r ≡ length (frame self delay count)) × (now (buf .exit) ≡ splice (now (buf .entry)) 0 (frame self delay count)) ⌝ }
+    {
+        let first = self.range_below(1024);
+        let fields = [2, self.end - 1, delay, count - 1, first.size - 1];
+        let Put::Done { next } = wire::put_numbers(buf, 0, &fields) else {
+            return 0;
+        };
+        let mut at = next;
+        let mut low = 1024 - first.size;
+        let mut left = count - 1;
+        while 0 < left {
+            let range = self.range_below(low);
+            let pair = [range.missing - 1, range.size - 1];
+            let Put::Done { next: after } = wire::put_numbers(buf, at, &pair) else {
+                return 0;
+            };
+            at = after;
+            low = low - range.missing - range.size;
+            left -= 1;
+        }
+        at
+    }
+}
+
+impl Receiver {
+    // The record after a written ACK: A = L, U is absent, N and cause are 0.
+    fn written(self) -> Receiver
+        ensures { λ r. ⌜ r ≡ written self ⌝ }
+    {
+        let seen = self.seen;
+        let before = self.pending;
+        let first = before.first;
+        let pending = Pending {
+            count: 0,
+            end: 0,
+            first,
+        };
+        let mut next = self;
+        next.pending = pending;
+        next.acknowledged = seen.end;
+        next.cause = 0;
+        next
+    }
+
+    // Writes an ACK frame at the start of buf. Due or not, it is allowed once something was received.
+    pub fn write(self, time: Micros, buf: &mut [u8]) -> Wrote
+        ensures { λ r. ⌜ (r ≡ writeAnswer self time (now (buf .entry))) × (now (buf .exit) ≡ writeBytes self time (now (buf .entry))) ⌝ }
+    {
+        if !self.consistent() {
+            return Wrote {
+                result: 1,
+                length: 0,
+                next: self,
+            };
+        }
+        if !numbers::is_small(time.0) {
+            return Wrote {
+                result: 5,
+                length: 0,
+                next: self,
+            };
+        }
+        let seen = self.seen;
+        if seen.end == 0 {
+            return Wrote {
+                result: 8,
+                length: 0,
+                next: self,
+            };
+        }
+        let delay = numbers::less(time.0, seen.arrived.0) / 8;
+        let count = seen.kept(delay, buf.len());
+        if count == 0 {
+            return Wrote {
+                result: 9,
+                length: 0,
+                next: self,
+            };
+        }
+        let length = seen.store(delay, count, buf);
+        let next = self.written();
+        Wrote {
+            result: 0,
+            length: length as u64,
+            next,
+        }
+    }
+}

@@ -1,0 +1,190 @@
+// The published examples of RFC 9000 and those of document 01 on numbers and frames, run and written out line by line.
+// Carries "the rest and RFC 9000's published vectors run in a test program" of document 01, "Settled examples".
+// What it must write stands in the file stdout, which was written from the papers and not from this program.
+mod calls;
+mod show;
+
+use calls::Reader;
+
+fn head() {
+    show::text(b"Each line: the call, what it is given, what it answers. ");
+    show::text(b"Before a call every byte of a buffer is ee, every number of a slice 99.\n");
+}
+
+fn published_read() {
+    show::text(b"\nRFC 9000, appendix A.1: numbers are read, cut at every byte\n");
+    calls::read_number(b"");
+    calls::cuts(Reader::Number, b"\xc2\x19\x7c\x5e\xff\x14\xe8\x8c");
+    calls::cuts(Reader::Number, b"\x9d\x7f\x3e\x7d");
+    calls::cuts(Reader::Number, b"\x7b\xbd");
+    calls::cuts(Reader::Number, b"\x25");
+    calls::cuts(Reader::Number, b"\x40\x25");
+}
+
+fn published_written() {
+    show::text(b"\nRFC 9000, appendix A.1: the same numbers are written, in shortest form\n");
+    calls::put_number_in(151288809941952652, 7);
+    calls::put_number_in(151288809941952652, 8);
+    calls::put_number_in(151288809941952652, 9);
+    calls::put_number_in(494878333, 3);
+    calls::put_number_in(494878333, 4);
+    calls::put_number_in(494878333, 5);
+    calls::put_number_in(15293, 1);
+    calls::put_number_in(15293, 2);
+    calls::put_number_in(15293, 3);
+    calls::put_number_in(37, 0);
+    calls::put_number_in(37, 1);
+    calls::put_number_in(37, 2);
+}
+
+fn widths() {
+    show::text(b"\nP2 and P3, and the ends of the four lengths\n");
+    calls::width(0);
+    calls::width(63);
+    calls::width(64);
+    calls::width(16383);
+    calls::width(16384);
+    calls::width(1073741823);
+    calls::width(1073741824);
+    calls::width(4611686018427387903);
+    calls::width(4611686018427387904);
+    calls::width(18446744073709551615);
+}
+
+fn ends_written() {
+    show::text(b"\nThe ends of the four lengths are written; 5 comes before 9\n");
+    calls::put_number_in(63, 9);
+    calls::put_number_in(64, 9);
+    calls::put_number_in(16383, 9);
+    calls::put_number_in(16384, 9);
+    calls::put_number_in(1073741823, 9);
+    calls::put_number_in(1073741824, 9);
+    calls::put_number_in(4611686018427387903, 9);
+    calls::put_number_in(4611686018427387904, 9);
+    calls::put_number_in(4611686018427387904, 0);
+}
+
+fn numbers_written() {
+    show::text(b"\nNumbers one after the other: all of them or none\n");
+    calls::put_two_in(37, 15293, 2);
+    calls::put_two_in(37, 15293, 3);
+    calls::put_two_in(37, 15293, 4);
+    calls::put_two_in(37, 4611686018427387904, 9);
+    calls::put_two_in(37, 4611686018427387904, 0);
+}
+
+fn fixed_read() {
+    show::text(b"\nFixed fields, high byte first, are read, cut at every byte\n");
+    calls::cuts(Reader::Fixed4, b"\x00\x00\x61\xa8");
+    calls::cuts(Reader::Fixed8, b"\xc2\x19\x7c\x5e\xff\x14\xe8\x8c");
+}
+
+fn fixed_written() {
+    show::text(b"\nFixed fields are written\n");
+    calls::put_fixed4_in(25000, 3);
+    calls::put_fixed4_in(25000, 4);
+    calls::put_fixed4_in(25000, 5);
+    calls::put_fixed8_in(13986346865224116364, 7);
+    calls::put_fixed8_in(13986346865224116364, 8);
+    calls::put_fixed8_in(13986346865224116364, 9);
+}
+
+fn frequency_read() {
+    show::text(b"\nP1: ACK_FREQUENCY is read, cut at every byte\n");
+    calls::cuts(Reader::Frequency, b"\x40\xaf\x05\x0a\x80\x00\x61\xa8\x03");
+    show::text(b"\nACK_FREQUENCY: a longer form of a number, bytes behind the frame, ");
+    show::text(b"a delay that is not judged here\n");
+    calls::read_frequency(b"\x40\xaf\x40\x05\x0a\x80\x00\x61\xa8\x03");
+    calls::read_frequency(b"\x40\xaf\x05\x0a\x80\x00\x61\xa8\x03\x1f");
+    calls::read_frequency(b"\x40\xaf\x05\x0a\x80\xfa\x00\x00\x03");
+}
+
+fn immediate_read() {
+    show::text(b"\nIMMEDIATE_ACK is read: 40 1f is cut at every byte, ");
+    show::text(b"bytes behind the frame are ignored\n");
+    calls::cuts(Reader::Immediate, b"\x40\x1f");
+    calls::read_immediate(b"\x1f");
+    calls::read_immediate(b"\x1f\x02");
+}
+
+// The same bytes to every reader of a frame.
+fn every_reader(s: &[u8]) {
+    calls::read_frequency(s);
+    calls::read_immediate(s);
+    calls::read_ack5(s);
+}
+
+fn types() {
+    show::text(b"\nFrame types: each of these to every reader\n");
+    every_reader(b"");
+    every_reader(b"\x40");
+    every_reader(b"\x40\x1f");
+    every_reader(b"\x40\x02");
+    every_reader(b"\x80\x00\x00\xaf");
+    every_reader(b"\xaf");
+    every_reader(b"\x03");
+}
+
+fn ack_read() {
+    show::text(b"\nP6's bytes: ACK is read, cut at every byte\n");
+    calls::cuts(Reader::Ack, b"\x02\x05\x00\x01\x02\x00\x01");
+    show::text(b"\nP6's bytes in less room: all the ranges or none\n");
+    let mut slice1 = [99u64; 1];
+    let mut slice3 = [99u64; 3];
+    let mut slice4 = [99u64; 4];
+    calls::read_ack0(b"\x02\x05\x00\x01\x02\x00\x01");
+    calls::read_ack(b"\x02\x05\x00\x01\x02\x00\x01", &mut slice1);
+    calls::read_ack(b"\x02\x05\x00\x01\x02\x00\x01", &mut slice3);
+    calls::read_ack(b"\x02\x05\x00\x01\x02\x00\x01", &mut slice4);
+}
+
+fn ack_below_zero() {
+    show::text(b"\nA gap below number 0 gives 14 though the length behind it is cut\n");
+    calls::cuts(Reader::Ack, b"\x02\x05\x00\x01\x04\x02");
+    show::text(b"\nACK at number 0 and below it, and bytes behind the frame\n");
+    calls::read_ack5(b"\x02\x05\x00\x00\x05\x02");
+    calls::read_ack5(b"\x02\x05\x00\x00\x06");
+    calls::read_ack5(b"\x02\x05\x00\x01\x02\x01\x00");
+    calls::read_ack5(b"\x02\x05\x00\x01\x02\x01\x01");
+    calls::read_ack5(b"\x02\x05\x00\x01\x02\x02");
+}
+
+fn ack_before_room() {
+    show::text(b"\nThe whole frame is checked before the room: a range count of 2^62 - 1\n");
+    calls::read_ack0(b"\x02\x05\x00\x01\x02");
+    calls::read_ack0(b"\x02\x05\x00\x01\x04\x02");
+    calls::read_ack0(b"\x02\x05\x00\xff\xff\xff\xff\xff\xff\xff\xff\x05");
+    calls::read_ack0(b"\x02\x05\x00\xff\xff\xff\xff\xff\xff\xff\xff\x05\x00");
+}
+
+fn frames_written() {
+    show::text(b"\nACK_FREQUENCY and IMMEDIATE_ACK are written; 5 comes before 9\n");
+    calls::put_frequency_in(5, 10, 25000, 3, 8);
+    calls::put_frequency_in(5, 10, 25000, 3, 9);
+    calls::put_frequency_in(5, 10, 25000, 3, 10);
+    calls::put_frequency_in(4611686018427387904, 10, 25000, 3, 10);
+    calls::put_frequency_in(5, 4611686018427387904, 25000, 3, 10);
+    calls::put_frequency_in(5, 10, 4611686018427387904, 3, 10);
+    calls::put_frequency_in(5, 10, 25000, 4611686018427387904, 0);
+    calls::put_immediate_in(0);
+    calls::put_immediate_in(1);
+    calls::put_immediate_in(2);
+}
+
+fn main() {
+    head();
+    published_read();
+    published_written();
+    widths();
+    ends_written();
+    numbers_written();
+    fixed_read();
+    fixed_written();
+    frequency_read();
+    immediate_read();
+    types();
+    ack_read();
+    ack_below_zero();
+    ack_before_room();
+    frames_written();
+}

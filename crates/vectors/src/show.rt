@@ -1,0 +1,120 @@
+// How a line is written: the call, the bytes or numbers that it is given, and what it answers.
+use frames::Ack;
+use frames::Frequency;
+use frames::Immediate;
+use wire::Number;
+use wire::Put;
+
+// A text.
+pub fn text(t: &[u8]) {
+    io::write_all(1, t);
+}
+
+// A text and a number behind it.
+pub fn count(t: &[u8], n: u64) {
+    io::write_all(1, t);
+    io::print_decimal(1, n);
+}
+
+fn wide(x: u8) -> u64 {
+    x as u64
+}
+
+// The bytes of s, a blank before each.
+pub fn bytes(s: &[u8]) {
+    if s.len() == 0 {
+        text(b" (empty)");
+    }
+    let mut i: usize = 0;
+    while i < s.len() {
+        text(b" ");
+        io::print_hex(1, wide(s[i]), 2);
+        i += 1;
+    }
+}
+
+// The numbers of s, a blank before each.
+pub fn numbers(s: &[u64]) {
+    if s.len() == 0 {
+        text(b" (empty)");
+    }
+    let mut i: usize = 0;
+    while i < s.len() {
+        count(b" ", s[i]);
+        i += 1;
+    }
+}
+
+// What a reader of numbers answers.
+pub fn number(answer: Number) {
+    match answer {
+        Number::Value { value, next } => {
+            count(b": value ", value);
+            count(b", length ", next as u64);
+        }
+        Number::Ends => count(b": refused ", answer.refusal()),
+    }
+    text(b"\n");
+}
+
+// What a writer answers, and the buffer that it leaves.
+pub fn put(answer: Put, buf: &[u8]) {
+    match answer {
+        Put::Done { next } => count(b": length ", next as u64),
+        _ => count(b": refused ", answer.refusal()),
+    }
+    text(b"; buffer");
+    bytes(buf);
+    text(b"\n");
+}
+
+// What the reader of ACK_FREQUENCY answers.
+pub fn frequency(answer: Frequency) {
+    match answer {
+        Frequency::Frame {
+            sequence,
+            threshold,
+            delay,
+            reordering,
+            used,
+        } => {
+            count(b": sequence ", sequence);
+            count(b", threshold ", threshold);
+            count(b", delay ", delay);
+            count(b", reordering ", reordering);
+            count(b", length ", used as u64);
+        }
+        _ => count(b": refused ", answer.refusal()),
+    }
+    text(b"\n");
+}
+
+// What the reader of IMMEDIATE_ACK answers.
+pub fn immediate(answer: Immediate) {
+    match answer {
+        Immediate::Frame { used } => count(b": length ", used as u64),
+        _ => count(b": refused ", answer.refusal()),
+    }
+    text(b"\n");
+}
+
+// What the ACK reader answers, and the slice that it leaves.
+pub fn ack(answer: Ack, slice: &[u64]) {
+    match answer {
+        Ack::Frame {
+            largest,
+            delay,
+            ranges,
+            used,
+        } => {
+            count(b": largest ", largest);
+            count(b", delay ", delay);
+            count(b", ranges ", ranges);
+            count(b", length ", used as u64);
+        }
+        _ => count(b": refused ", answer.refusal()),
+    }
+    text(b"; slice");
+    numbers(slice);
+    text(b"\n");
+}
