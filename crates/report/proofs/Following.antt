@@ -1,0 +1,153 @@
+-- Numbers that stand one after the other and are judged good are read one after the other; and what was read stands so.
+-- Assumes nothing.
+use Prim.Native.Nat.{ℕ, zero, suc, _+_, _-_, _≤_, _<_, zero-le, suc-le-suc}
+use mathlib.Core.Path.{_≡_, refl, sym, ap, _∙_}
+use mathlib.Core.Bool.{Bool, true, false}
+use mathlib.Core.List.{List, [], _∷_, _++_, append-assoc, append-nil}
+use native.Mathlib.Nat.{min-le-right, zero-add, le-refl}
+use native.Mathlib.Omega.{arith}
+use borrow.Author.Tests.{le-leb, lt-leb, ne-eqb, leb-true, leb-false, eqb-true, eqb-false}
+use lib.Dec.{leb, eqb}
+use lib.ListN.{length, getD, length-append, List·getD-append, List·getD-eq-default}
+use Rattle.wire.specs.Bytes.{pick}
+use Rattle.wire.specs.Fields.{field}
+use Rattle.wire.specs.Numbers.{readNumber}
+use Rattle.wire.specs.declared.Number.{Number}
+use Rattle.wire.specs.declared.Number.the-variants.{Value, Ends}
+use Rattle.wire.proofs.Lengths.{split}
+use Rattle.report.specs.Limits.{mostMetrics, mostNumbers, fixedNumbers}
+use Rattle.report.specs.Header.{judge, faultAfter, firstFault, wantedOf}
+use Rattle.report.specs.Reader.{Reading, Whole, Stopped, numbersFrom, readNumbers}
+use Rattle.report.specs.Exactly.{Stand, none, one, Open, Headed, EndsInside, Faulty}
+
+-- ---- how many numbers are wanted
+
+pub wanted-most : (ns : List ℕ) → wantedOf ns ≤ mostNumbers
+wanted-most ns = omega (arith, min-le-right (getD ns 7 0) mostMetrics)
+
+-- a start of numbers that want no fewer than they are wants more than it is
+pub wants-more : (ns us : List ℕ) → 0 < length us → length (ns ++ us) ≤ wantedOf (ns ++ us) → length ns < wantedOf ns
+wants-more ns us p h =
+    split fixedNumbers (length ns)
+    (λ l. let e : getD (ns ++ us) 7 0 ≡ getD ns 7 0 = List·getD-append ns us 0 7 (omega arith) in
+    let n : length (ns ++ us) ≡ length ns + length us = length-append ns us in
+    omega (arith, rw e at h))
+    (λ l. omega arith)
+
+-- ---- faults of numbers in two parts
+
+pub fault-append : (ns us vs : List ℕ) → faultAfter ns us ≡ 0 → faultAfter ns (us ++ vs) ≡ faultAfter (ns ++ us) vs
+unfolding faultAfter
+fault-append ns [] vs e = ap (λ (l : List ℕ). faultAfter l vs) (sym (append-nil ns))
+fault-append ns (u ∷ us) vs e = go (fault-append (ns ++ (u ∷ [])) us vs) (eqb (judge ns u) 0) refl e
+  where
+    go : (faultAfter (ns ++ (u ∷ [])) us ≡ 0 → faultAfter (ns ++ (u ∷ [])) (us ++ vs) ≡ faultAfter ((ns ++ (u ∷ [])) ++ us) vs) → (b : Bool) → eqb (judge ns u) 0 ≡ b
+        → pick b (faultAfter (ns ++ (u ∷ [])) us) (judge ns u) ≡ 0 → pick b (faultAfter (ns ++ (u ∷ [])) (us ++ vs)) (judge ns u) ≡ faultAfter (ns ++ (u ∷ us)) vs
+    go more true t e = more e ∙ ap (λ (l : List ℕ). faultAfter l vs) (append-assoc ns (u ∷ []) us)
+    go more false t e = absurd (eqb-false (judge ns u) 0 t e)
+
+-- the first is good, and so are those after it
+pub fault-first : (ns : List ℕ) (v : ℕ) (vs : List ℕ) → faultAfter ns (v ∷ vs) ≡ 0 → (judge ns v ≡ 0) × (faultAfter (ns ++ (v ∷ [])) vs ≡ 0)
+unfolding faultAfter
+fault-first ns v vs e = go (eqb (judge ns v) 0) refl e
+  where
+    go : (b : Bool) → eqb (judge ns v) 0 ≡ b → pick b (faultAfter (ns ++ (v ∷ [])) vs) (judge ns v) ≡ 0 → (judge ns v ≡ 0) × (faultAfter (ns ++ (v ∷ [])) vs ≡ 0)
+    go true t e = (eqb-true (judge ns v) 0 t, e)
+    go false t e = absurd (eqb-false (judge ns v) 0 t e)
+
+pub fault-last : (ns us : List ℕ) (v : ℕ) → faultAfter ns us ≡ 0 → judge (ns ++ us) v ≡ 0 → faultAfter ns (us ++ (v ∷ [])) ≡ 0
+unfolding faultAfter
+fault-last ns us v e j = fault-append ns us (v ∷ []) e ∙ rw j
+
+-- ---- reading follows what stands
+
+module _ (s : List ℕ) where
+  pub follow : (vs ns : List ℕ) (n at to : ℕ) → Stand s at vs to → faultAfter ns vs ≡ 0 → length (ns ++ vs) ≤ wantedOf (ns ++ vs)
+      → numbersFrom (length vs + n) s at ns ≡ numbersFrom n s to (ns ++ vs)
+  unfolding numbersFrom
+  follow [] ns n at to none e h = rw (zero-add, append-nil)
+  follow (v ∷ vs) ns n at to (one {next = next} r st) e h =
+      let f = fault-first ns v vs e in
+      let l : suc (length vs) + n ≡ suc (length vs + n) = omega arith in
+      let a : (ns ++ (v ∷ [])) ++ vs ≡ ns ++ (v ∷ vs) = append-assoc ns (v ∷ []) vs in
+      let w : length ns < wantedOf ns = wants-more ns (v ∷ vs) (suc-le-suc zero-le) h in
+      rw (l, lt-leb (wantedOf ns) (length ns) w, r, f .0)
+      (follow vs (ns ++ (v ∷ [])) n next to st (f .1) (rw a h) ∙ ap (numbersFrom n s to) a)
+
+-- ---- and what was read stands so
+
+pub stand-last : (s : List ℕ) (ns : List ℕ) (from at v next : ℕ) → Stand s from ns at → readNumber s at ≡ Value v next → Stand s from (ns ++ (v ∷ [])) next
+stand-last s [] from at v next none r = one r none
+stand-last s (u ∷ ns) from at v next (one q st) r = one q (stand-last s ns _ at v next st r)
+
+-- one number more wants no fewer
+pub wanted-last : (ns : List ℕ) (v : ℕ) → wantedOf ns ≤ wantedOf (ns ++ (v ∷ []))
+wanted-last ns v =
+    split fixedNumbers (length ns)
+    (λ l. let e : getD (ns ++ (v ∷ [])) 7 0 ≡ getD ns 7 0 = List·getD-append ns (v ∷ []) 0 7 (omega arith) in rw e (le-refl (wantedOf ns)))
+    (λ l. let e : getD ns 7 0 ≡ 0 = List·getD-eq-default ns 0 {n = 7} (omega arith) in rw e (omega arith))
+
+-- where the reading of numbers can end
+pub data End (s : List ℕ) : Reading → Type 0 where
+  inside : EndsInside s → End s (Stopped 2)
+  fault : {n : ℕ} → Faulty n s → (n ≡ 0 → ⊥) → End s (Stopped n)
+  header : {ns : List ℕ} {at : ℕ} → Headed s ns at → End s (Whole ns at)
+
+module _ (s : List ℕ) where
+  pub ended : (n at : ℕ) (ns : List ℕ) → length ns + n ≡ mostNumbers → Stand s 0 ns at → firstFault ns ≡ 0 → length ns ≤ wantedOf ns → End s (numbersFrom n s at ns)
+  unfolding numbersFrom
+  ended zero at ns l st e h = header (record { stand = st; good = e; whole = omega (arith, wanted-most ns) })
+  ended (suc n) at ns l st e h = by (ended n) (leb (wantedOf ns) (length ns)) refl
+    where
+      on : ((at : ℕ) (ns : List ℕ) → length ns + n ≡ mostNumbers → Stand s 0 ns at → firstFault ns ≡ 0 → length ns ≤ wantedOf ns → End s (numbersFrom n s at ns))
+          → Open s ns at → (v next : ℕ) → readNumber s at ≡ Value v next → (b : Bool) → eqb (judge ns v) 0 ≡ b
+          → End s (pick b (numbersFrom n s next (ns ++ (v ∷ []))) (Stopped (judge ns v)))
+      on more o v next r true t =
+          let k : length (ns ++ (v ∷ [])) ≡ length ns + 1 = length-append ns (v ∷ []) in
+          more next (ns ++ (v ∷ [])) (omega arith) (stand-last s ns 0 at v next st r) (fault-last [] ns v e (eqb-true (judge ns v) 0 t)) (omega (arith, o .more, wanted-last ns v))
+      on more o v next r false t =
+          fault (record { ns = ns; at = at; v = v; next = next; far = o; reads = r; fault = refl }) (eqb-false (judge ns v) 0 t)
+
+      get : ((at : ℕ) (ns : List ℕ) → length ns + n ≡ mostNumbers → Stand s 0 ns at → firstFault ns ≡ 0 → length ns ≤ wantedOf ns → End s (numbersFrom n s at ns))
+          → Open s ns at → (r : Number) → readNumber s at ≡ r
+          → End s (field r (Stopped 2) (λ v next. pick (eqb (judge ns v) 0) (numbersFrom n s next (ns ++ (v ∷ []))) (Stopped (judge ns v))))
+      get more o (Value v next) r = on more o v next r (eqb (judge ns v) 0) refl
+      get more o Ends r = inside (record { ns = ns; at = at; far = o; ends = r })
+
+      by : ((at : ℕ) (ns : List ℕ) → length ns + n ≡ mostNumbers → Stand s 0 ns at → firstFault ns ≡ 0 → length ns ≤ wantedOf ns → End s (numbersFrom n s at ns))
+          → (b : Bool) → leb (wantedOf ns) (length ns) ≡ b
+          → End s (pick b (Whole ns at) (field (readNumber s at) (Stopped 2) (λ v next. pick (eqb (judge ns v) 0) (numbersFrom n s next (ns ++ (v ∷ []))) (Stopped (judge ns v)))))
+      by more true t = header (record { stand = st; good = e; whole = omega (arith, leb-true (wantedOf ns) (length ns) t) })
+      by more false t = get more (record { stand = st; good = e; more = leb-false (wantedOf ns) (length ns) t }) (readNumber s at) refl
+
+pub numbers-end : (s : List ℕ) → End s (readNumbers s)
+unfolding faultAfter
+numbers-end s = ended s mostNumbers 0 [] refl none refl zero-le
+
+-- ---- the other direction: each end is the one that the reading comes to
+
+module _ (s ns : List ℕ) (at : ℕ) where
+  reach : Stand s 0 ns at → firstFault ns ≡ 0 → length ns ≤ wantedOf ns → (n : ℕ) → length ns + n ≡ mostNumbers → readNumbers s ≡ numbersFrom n s at ns
+  reach st e h n l = ap (λ (m : ℕ). numbersFrom m s 0 []) (sym l) ∙ follow s ns [] n 0 at st e h
+
+  stops : (n : ℕ) → wantedOf ns ≤ length ns → numbersFrom n s at ns ≡ Whole ns at
+  unfolding numbersFrom
+  stops zero h = refl
+  stops (suc n) h = rw (le-leb (wantedOf ns) (length ns) h)
+
+  pub headed-whole : Headed s ns at → readNumbers s ≡ Whole ns at
+  headed-whole o =
+      let m : length ns + (mostNumbers - length ns) ≡ mostNumbers = omega (arith, o .whole, wanted-most ns) in
+      reach (o .stand) (o .good) (omega (arith, o .whole)) (mostNumbers - length ns) m ∙ stops (mostNumbers - length ns) (omega (arith, o .whole))
+
+  -- one number more is looked for
+  goes : Open s ns at → readNumbers s ≡ numbersFrom (suc (mostNumbers - (length ns + 1))) s at ns
+  goes o = reach (o .stand) (o .good) (omega (arith, o .more)) (suc (mostNumbers - (length ns + 1))) (omega (arith, o .more, wanted-most ns))
+
+  pub open-ends : Open s ns at → readNumber s at ≡ Ends → readNumbers s ≡ Stopped 2
+  unfolding numbersFrom
+  open-ends o r = goes o ∙ rw (lt-leb (wantedOf ns) (length ns) (o .more), r)
+
+  pub open-fault : Open s ns at → (v next n : ℕ) → readNumber s at ≡ Value v next → judge ns v ≡ n → (n ≡ 0 → ⊥) → readNumbers s ≡ Stopped n
+  unfolding numbersFrom
+  open-fault o v next n r j z = goes o ∙ rw (lt-leb (wantedOf ns) (length ns) (o .more), r, j, ne-eqb n 0 z)

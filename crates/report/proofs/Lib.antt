@@ -1,0 +1,16 @@
+pub mod Signed
+pub mod WireLaws
+pub mod Records
+pub mod Whole
+pub mod Keeping
+pub mod Planning
+pub mod Only
+pub mod Examples
+pub mod Following
+pub mod Exactly
+pub mod Places
+pub mod Back
+pub mod Forth
+pub mod Metrics
+pub mod Refusing
+pub mod Agreeing

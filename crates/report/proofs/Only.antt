@@ -1,0 +1,55 @@
+-- Only one: two results that meet the contract of a public call, as its source states it, are equal, and so are the lent buffers that they leave.
+-- Assumes nothing.
+use mathlib.Core.Path.{_≡_, sym, _∙_}
+use borrow.Fn.Kinds.{Dens, resT, endedOf}
+use contract.Lifetimes.{Lfts}
+use denote.Ref.{now}
+use denote.Triple.Clauses.{AtExit}
+use Rattle.wire.proofs.Only.{OneAnswer, OneBuffer}
+use Rattle.report.proofs.read_report.Reads as read-report
+use Rattle.report.proofs.read_report.Kinds as read-report-kinds
+use Rattle.report.proofs.entries_of.Reads as entries-of
+use Rattle.report.proofs.entries_of.Kinds as entries-of-kinds
+use Rattle.report.proofs.read_entry.Reads as read-entry
+use Rattle.report.proofs.read_entry.Kinds as read-entry-kinds
+use Rattle.report.proofs.write_report.Reads as write-report
+use Rattle.report.proofs.write_report.Kinds as write-report-kinds
+use Rattle.report.proofs.stored.Reads as stored
+use Rattle.report.proofs.stored.Kinds as stored-kinds
+use Rattle.report.proofs.average.Reads as average
+use Rattle.report.proofs.average.Kinds as average-kinds
+use Rattle.report.proofs.empty_header.Reads as empty-header
+use Rattle.report.proofs.empty_header.Kinds as empty-header-kinds
+use Rattle.report.proofs.Entry.refusal.Reads as entry-refusal
+use Rattle.report.proofs.Entry.refusal.Kinds as entry-refusal-kinds
+use Rattle.report.proofs.Written.refusal.Reads as written-refusal
+use Rattle.report.proofs.Written.refusal.Kinds as written-refusal-kinds
+
+pub read-report-one : OneAnswer 1 read-report-kinds.ps read-report-kinds.r read-report.Post
+read-report-one κs given x y s t p q = p ∙ sym q
+
+-- the companion's answer is a part of the lent bytes: what it holds is fixed
+pub entries-of-one : (κs : Lfts 1) (given : Dens κs entries-of-kinds.ps) (x y : resT entries-of-kinds.r κs .Denot) (s t : AtExit (endedOf 1 entries-of-kinds.ps entries-of-kinds.r) κs)
+    → entries-of.Post κs given x s → entries-of.Post κs given y t → now x ≡ now y
+entries-of-one κs given x y s t p q = p ∙ sym q
+
+pub read-entry-one : OneAnswer 1 read-entry-kinds.ps read-entry-kinds.r read-entry.Post
+read-entry-one κs given x y s t p q = p ∙ sym q
+
+pub write-report-one : OneBuffer 2 write-report-kinds.ps write-report-kinds.r (λ κs s. now (s .0)) write-report.Post
+write-report-one κs given x y s t p q = (p .0 ∙ sym (q .0), p .1 ∙ sym (q .1))
+
+pub stored-one : OneAnswer 0 stored-kinds.ps stored-kinds.r stored.Post
+stored-one κs given x y s t p q = p ∙ sym q
+
+pub average-one : OneAnswer 0 average-kinds.ps average-kinds.r average.Post
+average-one κs given x y s t p q = p ∙ sym q
+
+pub empty-header-one : OneAnswer 0 empty-header-kinds.ps empty-header-kinds.r empty-header.Post
+empty-header-one κs given x y s t p q = p ∙ sym q
+
+pub entry-refusal-one : OneAnswer 0 entry-refusal-kinds.ps entry-refusal-kinds.r entry-refusal.Post
+entry-refusal-one κs given x y s t p q = p ∙ sym q
+
+pub written-refusal-one : OneAnswer 0 written-refusal-kinds.ps written-refusal-kinds.r written-refusal.Post
+written-refusal-one κs given x y s t p q = p ∙ sym q

@@ -1,0 +1,145 @@
+-- The whole reader: how one number more, and each later judgement, carries the reading on or ends it.
+-- Assumes nothing.
+use Prim.Native.Nat.{ℕ, suc, _+_, _-_, _*_, _≤_, _<_}
+use mathlib.Core.Path.{_≡_, refl, sym, ap, _∙_}
+use mathlib.Core.Bool.{Bool, true, false}
+use mathlib.Core.List.{List, [], _∷_, _++_}
+use native.Mathlib.Numerals.{add-one}
+use native.Mathlib.Omega.{arith}
+use borrow.Author.Tests.{le-leb, lt-leb, eq-eqb, ne-eqb, eqb-true}
+use lib.Dec.{leb, eqb}
+use lib.ListN.{length, take, drop, set}
+use lib.Seq.{take-suc-set, length-take-le}
+use Rattle.wire.specs.Bytes.{pick}
+use Rattle.wire.specs.Fields.{field}
+use Rattle.wire.specs.Numbers.{readNumber}
+use Rattle.wire.specs.declared.Number.the-variants.{Value, Ends}
+use Rattle.report.specs.Limits.{recordSize, mostNumbers}
+use Rattle.report.specs.Header.{judge, wantedOf, countOf, headerOf, emptyHeader}
+use Rattle.report.specs.Entries.{entriesGood}
+use Rattle.report.specs.Reader.{Reading, Whole, Stopped, numbersFrom, readNumbers, partOf, judgeEntries, judged, reportOf, readReport, entriesIn, entriesOf, foundOf}
+use Rattle.report.specs.declared.Found.{Found}
+
+-- ---- the numbers so far are the first count of an array
+
+module _ (s numbers : List ℕ) (at count : ℕ) (R : Reading) (h : count < mostNumbers) (l : length numbers ≡ mostNumbers)
+    (inv : numbersFrom (mostNumbers - count) s at (take count numbers) ≡ R) where
+  so-far : length (take count numbers) ≡ count
+  so-far = length-take-le count numbers (omega arith)
+
+  opened : pick (leb (wantedOf (take count numbers)) count) (Whole (take count numbers) at)
+      (field (readNumber s at) (Stopped 2) (λ v next.
+      pick (eqb (judge (take count numbers) v) 0) (numbersFrom (mostNumbers - (count + 1)) s next (take count numbers ++ (v ∷ []))) (Stopped (judge (take count numbers) v)))) ≡ R
+  unfolding numbersFrom
+  opened = let e : mostNumbers - count ≡ suc (mostNumbers - (count + 1)) = omega arith in rw (e, so-far) at inv
+
+  pub whole-now : wantedOf (take count numbers) ≤ count → Whole (take count numbers) at ≡ R
+  whole-now w = rw (le-leb (wantedOf (take count numbers)) count w) at opened
+
+  going : count < wantedOf (take count numbers) → field (readNumber s at) (Stopped 2) (λ v next.
+      pick (eqb (judge (take count numbers) v) 0) (numbersFrom (mostNumbers - (count + 1)) s next (take count numbers ++ (v ∷ []))) (Stopped (judge (take count numbers) v))) ≡ R
+  going w = rw (lt-leb (wantedOf (take count numbers)) count w) at opened
+
+  pub ends-now : count < wantedOf (take count numbers) → readNumber s at ≡ Ends → Stopped 2 ≡ R
+  ends-now w e = rw e at (going w)
+
+  module _ (v next r : ℕ) (w : count < wantedOf (take count numbers)) (e : readNumber s at ≡ Value v next) (j : r ≡ judge (take count numbers) v) where
+    pub refused-now : (r ≡ 0 → ⊥) → Stopped r ≡ R
+    refused-now n = ap Stopped j ∙ (rw (e, ne-eqb (judge (take count numbers) v) 0 (λ z. n (j ∙ z))) at (going w))
+
+    pub more-now : r ≡ 0 → numbersFrom (mostNumbers - (count + 1)) s next (take (count + 1) (set numbers count v)) ≡ R
+    more-now z =
+        let g : numbersFrom (mostNumbers - (count + 1)) s next (take count numbers ++ (v ∷ [])) ≡ R = rw (e, eq-eqb (judge (take count numbers) v) 0 (sym j ∙ z)) at (going w) in
+        ap (numbersFrom (mostNumbers - (count + 1)) s next) (ap (λ (n : ℕ). take n (set numbers count v)) (add-one count) ∙ take-suc-set numbers count v (omega arith)) ∙ g
+
+pub full-now : (s numbers : List ℕ) (at count : ℕ) (R : Reading) → mostNumbers ≤ count → numbersFrom (mostNumbers - count) s at (take count numbers) ≡ R → Whole (take count numbers) at ≡ R
+unfolding numbersFrom
+full-now s numbers at count R h inv = let e : mostNumbers - count ≡ 0 = omega arith in rw e at inv
+
+-- ---- what the code's own answer holds
+
+pub found-whole : (f : Found) → f .refusal ≡ 0 → foundOf f ≡ Whole (take (f .count) (f .numbers)) (f .next)
+unfolding foundOf
+found-whole f z = rw (eq-eqb (f .refusal) 0 z)
+
+pub found-stopped : (f : Found) (n : ℕ) → f .refusal ≡ n → (n ≡ 0 → ⊥) → foundOf f ≡ Stopped n
+unfolding foundOf
+found-stopped f n e z = rw (ne-eqb (f .refusal) 0 (λ t. z (sym e ∙ t)), e)
+
+-- ---- after the numbers
+
+pub stopped-judged : (s : List ℕ) (f : Found) → (f .refusal ≡ 0 → ⊥) → foundOf f ≡ readNumbers s → foundOf f ≡ judged s
+unfolding judged judgeEntries
+stopped-judged s f n e =
+    let t : Stopped (f .refusal) ≡ readNumbers s = sym (found-stopped f (f .refusal) refl n) ∙ e in
+    found-stopped f (f .refusal) refl n ∙ ap (judgeEntries s) t
+
+module _ (s : List ℕ) (f : Found) (z : f .refusal ≡ 0) (e : foundOf f ≡ readNumbers s) (k : ℕ) (c : k ≡ countOf (take (f .count) (f .numbers))) where
+  abbrev ns : List ℕ
+  ns = take (f .count) (f .numbers)
+
+  after : judged s ≡ judgeEntries s (Whole ns (f .next))
+  unfolding judged
+  after = ap (judgeEntries s) (sym e ∙ found-whole f z)
+
+  pub too-few : length s < f .next + recordSize * k → Stopped 2 ≡ judged s
+  unfolding judgeEntries
+  too-few h = rw (after, ← c, lt-leb (f .next + recordSize * k) (length s) h)
+
+  module _ (h : f .next + recordSize * k ≤ length s) where
+    pub broken : false ≡ entriesGood (take (recordSize * k) (drop (f .next) s)) → Stopped 12 ≡ judged s
+    unfolding judgeEntries
+    broken g = rw (after, ← c, le-leb (f .next + recordSize * k) (length s) h, ← g)
+
+    pub behind : true ≡ entriesGood (take (recordSize * k) (drop (f .next) s)) → f .next + recordSize * k < length s → Stopped 13 ≡ judged s
+    unfolding judgeEntries
+    behind g l = rw (after, ← c, le-leb (f .next + recordSize * k) (length s) h, ← g, ne-eqb (f .next + recordSize * k) (length s) (λ q. omega arith))
+
+    pub accepted : true ≡ entriesGood (take (recordSize * k) (drop (f .next) s)) → length s ≤ f .next + recordSize * k → foundOf f ≡ judged s
+    unfolding judgeEntries
+    accepted g l = found-whole f z ∙ rw (after, ← c, le-leb (f .next + recordSize * k) (length s) h, ← g, eq-eqb (f .next + recordSize * k) (length s) (omega arith))
+
+-- ---- what reader and companion answer
+
+pub report-stopped : (s : List ℕ) (f : Found) → (f .refusal ≡ 0 → ⊥) → foundOf f ≡ judged s → record { refusal = f .refusal; header = emptyHeader } ≡ readReport s
+unfolding reportOf
+report-stopped s f n e = ap reportOf (sym (found-stopped f (f .refusal) refl n) ∙ e)
+
+pub report-whole : (s : List ℕ) (f : Found) → f .refusal ≡ 0 → foundOf f ≡ judged s → record { refusal = f .refusal; header = headerOf (take (f .count) (f .numbers)) } ≡ readReport s
+unfolding reportOf
+report-whole s f z e = rw z (ap reportOf (sym (found-whole f z) ∙ e))
+
+pub none-stopped : (s : List ℕ) (f : Found) → (f .refusal ≡ 0 → ⊥) → foundOf f ≡ judged s → [] ≡ entriesOf s
+unfolding entriesIn
+none-stopped s f n e = ap (entriesIn s) (sym (found-stopped f (f .refusal) refl n) ∙ e)
+
+-- what an accepted report says
+pub record Judged (s ns : List ℕ) (at : ℕ) : Type 0 where
+  pub numbers : readNumbers s ≡ Whole ns at
+  pub good : entriesGood (partOf s ns at) ≡ true
+  pub end : at + recordSize * countOf ns ≡ length s
+
+pub judged-whole : (s ns : List ℕ) (at : ℕ) → Whole ns at ≡ judged s → Judged s ns at
+unfolding judged judgeEntries
+judged-whole s ns at e = by (readNumbers s) refl e
+  where
+    by : (r : Reading) → readNumbers s ≡ r → Whole ns at ≡ judgeEntries s r → Judged s ns at
+    by (Stopped n) f e = let q : _≡_ {A = ℕ} 0 1 = cc in absurd (omega arith)
+    by (Whole ms to) f e = go (leb (to + recordSize * countOf ms) (length s)) (entriesGood (partOf s ms to)) (eqb (to + recordSize * countOf ms) (length s)) refl refl e
+      where
+        go : (a b c : Bool) → entriesGood (partOf s ms to) ≡ b → eqb (to + recordSize * countOf ms) (length s) ≡ c → Whole ns at ≡ pick a (pick b (pick c (Whole ms to) (Stopped 13)) (Stopped 12)) (Stopped 2) → Judged s ns at
+        go true true true g t e =
+            let p : ns ≡ ms = cc in
+            let q : at ≡ to = cc in
+            record { numbers = f ∙ sym e; good = rw (p, q) g; end = rw (p, q) (eqb-true (to + recordSize * countOf ms) (length s) t) }
+        go true true false g t e = let q : _≡_ {A = ℕ} 0 1 = cc in absurd (omega arith)
+        go true false c g t e = let q : _≡_ {A = ℕ} 0 1 = cc in absurd (omega arith)
+        go false b c g t e = let q : _≡_ {A = ℕ} 0 1 = cc in absurd (omega arith)
+
+pub part-whole : (s : List ℕ) (f : Found) → f .refusal ≡ 0 → foundOf f ≡ judged s → take (length s - f .next) (drop (f .next) s) ≡ entriesOf s
+unfolding entriesIn
+part-whole s f z e =
+    let w : Whole (take (f .count) (f .numbers)) (f .next) ≡ judged s = sym (found-whole f z) ∙ e in
+    let l = judged-whole s (take (f .count) (f .numbers)) (f .next) w .end in
+    let m : length s - f .next ≡ recordSize * countOf (take (f .count) (f .numbers)) = omega arith in
+    rw m (ap (entriesIn s) w)

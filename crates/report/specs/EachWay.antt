@@ -1,0 +1,74 @@
+-- Each way: what the writer wrote the reader reads back, and what the reader accepts in shortest form the writer writes.
+use Prim.Native.Nat.{ℕ, _-_, _*_, _≤_, _<_}
+use mathlib.Core.Path.{_≡_}
+use mathlib.Core.List.{List, []}
+use lib.Dec.{ltb}
+use lib.ListN.{length, getD, take, drop}
+use Rattle.wire.specs.Bytes.{pick}
+use Rattle.wire.specs.Numbers.{encodeAll}
+use Rattle.report.specs.Limits.{recordSize, mostMetrics, mostEntries}
+use Rattle.report.specs.Header.{each, countOf, headerOf, numbersOf}
+use Rattle.report.specs.Reader.{Whole, judged, readReport, entriesOf}
+use Rattle.report.specs.Writer.{sizeOf, writeAnswer, writeBytes}
+use Rattle.report.specs.Exactly.{Obeys}
+use Rattle.report.specs.declared.Header.{Header}
+use Rattle.report.specs.declared.Written.the-variants.{Done}
+
+-- a header as it goes over the wire with k records: of the metrics those that are counted, and k entries
+unfoldable pub sentAs : Header → ℕ → Header
+sentAs h k = record {
+  timestamp = h .timestamp;
+  interval = h .interval;
+  total = h .total;
+  received = h .received;
+  late = h .late;
+  lost = h .lost;
+  average = h .average;
+  metrics = h .metrics;
+  kinds = each mostMetrics 0 (λ i. pick (ltb i (h .metrics)) (getD (h .kinds) i 0) 0);
+  values = each mostMetrics 0 (λ i. pick (ltb i (h .metrics)) (getD (h .values) i 0) 0);
+  entries = k;
+}
+
+-- the last k records
+abbrev pub lastOf : List ℕ → ℕ → List ℕ
+lastOf entries k = drop (length entries - recordSize * k) entries
+
+-- what was written, read again: the header, and exactly the records that were kept
+pub record ReadsBack (h : Header) (entries written : List ℕ) (next kept : ℕ) : Type 0 where
+  pub header : readReport (take next written) ≡ record { refusal = 0; header = sentAs h kept }
+  pub records : entriesOf (take next written) ≡ lastOf entries kept
+
+abbrev pub WriteRead : Type 0
+WriteRead = (h : Header) (entries xs : List ℕ) (next kept : ℕ) → Done next kept ≡ writeAnswer h entries (length xs) → ReadsBack h entries (writeBytes h entries xs) next kept
+
+-- the run of last records that is kept: at most 50, no more than are given, it fits, and no longer one does; bytes behind the report stay
+pub record Keeps (h : Header) (entries xs : List ℕ) (next kept : ℕ) : Type 0 where
+  pub limit : kept ≤ mostEntries
+  pub given : recordSize * kept ≤ length entries
+  pub size : next ≡ sizeOf (length (encodeAll (numbersOf h))) kept
+  pub fits : next ≤ length xs
+  pub longest : (k : ℕ) → k ≤ mostEntries → recordSize * k ≤ length entries → sizeOf (length (encodeAll (numbersOf h))) k ≤ length xs → k ≤ kept
+  pub stay : drop next (writeBytes h entries xs) ≡ drop next xs
+
+abbrev pub WriteKeeps : Type 0
+WriteKeeps = (h : Header) (entries xs : List ℕ) (next kept : ℕ) → Done next kept ≡ writeAnswer h entries (length xs) → Keeps h entries xs next kept
+
+-- an accepted report, written from its header and its entries into a room that holds it
+pub record WritesBack (s ns xs : List ℕ) : Type 0 where
+  pub answer : Done (length s) (countOf ns) ≡ writeAnswer (headerOf ns) (entriesOf s) (length xs)
+  pub bytes : take (length s) (writeBytes (headerOf ns) (entriesOf s) xs) ≡ s
+
+-- its elements are bytes, and its numbers are in shortest form: they take no more bytes than the shortest forms
+abbrev pub ReadWrite : Type 0
+ReadWrite = (s ns xs : List ℕ) (at : ℕ) → ((i : ℕ) → getD s i 0 < 256) → Whole ns at ≡ judged s → at ≡ length (encodeAll ns) → length s ≤ length xs → WritesBack s ns xs
+
+-- reader and companion agree: both refuse together, and of an accepted report the part holds as many records as the header says, each of them good
+pub record Agree (s : List ℕ) : Type 0 where
+  pub refused : (readReport s .refusal ≡ 0 → ⊥) → entriesOf s ≡ []
+  pub many : readReport s .refusal ≡ 0 → length (entriesOf s) ≡ recordSize * readReport s .header .entries
+  pub each : readReport s .refusal ≡ 0 → (i : ℕ) → i < readReport s .header .entries → Obeys (entriesOf s) i
+  pub part : readReport s .refusal ≡ 0 → entriesOf s ≡ drop (length s - recordSize * readReport s .header .entries) s
+
+abbrev pub BothAgree : Type 0
+BothAgree = (s : List ℕ) → Agree s

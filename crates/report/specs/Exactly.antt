@@ -1,0 +1,211 @@
+-- The rows of the refusal table for reports: each number is given exactly when its row says, the first fault first.
+use Prim.Native.Nat.{ℕ, suc, _+_, _-_, _*_, _/_, _%_, _≤_, _<_}
+use mathlib.Core.Path.{_≡_}
+use mathlib.Core.Logic.{_↔_, _⊎_}
+use mathlib.Core.Bool.{true, false}
+use mathlib.Core.List.{List, [], _∷_}
+use lib.ListN.{length, getD}
+use Rattle.wire.specs.Numbers.{readNumber, encodeAll}
+use Rattle.wire.specs.Exactly.{Small}
+use Rattle.wire.specs.declared.Number.the-variants.{Value, Ends}
+use Rattle.report.specs.Limits.{recordSize, mostMetrics, mostEntries, mostGiven, fixedNumbers}
+use Rattle.report.specs.Header.{knownType, typeRises, judge, firstFault, wantedOf, countOf, numbersOf}
+use Rattle.report.specs.Entries.{objectOf, recordAt, entryAt, entriesGood}
+use Rattle.report.specs.Reader.{partOf, readReport}
+use Rattle.report.specs.Writer.{sizeOf, writeAnswer, writeBytes}
+use Rattle.report.specs.Refusals.{writtenRefusal}
+use Rattle.report.specs.declared.Header.{Header}
+use Rattle.report.specs.declared.Status.{Status}
+use Rattle.report.specs.declared.Entry.the-variants.{Record}
+
+-- ---- the reader
+
+-- the numbers vs stand one after the other from the place at up to the place to
+pub data Stand (s : List ℕ) : ℕ → List ℕ → ℕ → Type 0 where
+  none : {at : ℕ} → Stand s at [] at
+  one : {at next to v : ℕ} {vs : List ℕ} → readNumber s at ≡ Value v next → Stand s next vs to → Stand s at (v ∷ vs) to
+
+-- the numbers ns were read, none brought a refusal, and more are wanted
+pub record Open (s ns : List ℕ) (at : ℕ) : Type 0 where
+  pub stand : Stand s 0 ns at
+  pub good : firstFault ns ≡ 0
+  pub more : length ns < wantedOf ns
+
+-- the numbers ns are a whole header: they were read, none brought a refusal, and they are as many as are wanted
+pub record Headed (s ns : List ℕ) (at : ℕ) : Type 0 where
+  pub stand : Stand s 0 ns at
+  pub good : firstFault ns ≡ 0
+  pub whole : length ns ≡ wantedOf ns
+
+-- the bytes end inside a number
+pub record EndsInside (s : List ℕ) : Type 0 where
+  pub ns : List ℕ
+  pub at : ℕ
+  pub far : Open s ns at
+  pub ends : readNumber s at ≡ Ends
+
+-- a number that was read breaks the rule of its place
+pub record Faulty (n : ℕ) (s : List ℕ) : Type 0 where
+  pub ns : List ℕ
+  pub at : ℕ
+  pub v : ℕ
+  pub next : ℕ
+  pub far : Open s ns at
+  pub reads : readNumber s at ≡ Value v next
+  pub fault : judge ns v ≡ n
+
+-- too few bytes remain for the entries
+pub record TooFew (s : List ℕ) : Type 0 where
+  pub ns : List ℕ
+  pub at : ℕ
+  pub header : Headed s ns at
+  pub few : length s < at + recordSize * countOf ns
+
+-- the entries are there, and a record breaks its rule
+pub record BadEntry (s : List ℕ) : Type 0 where
+  pub ns : List ℕ
+  pub at : ℕ
+  pub header : Headed s ns at
+  pub there : at + recordSize * countOf ns ≤ length s
+  pub bad : entriesGood (partOf s ns at) ≡ false
+
+-- the entries are there and good, and bytes remain
+pub record Behind (s : List ℕ) : Type 0 where
+  pub ns : List ℕ
+  pub at : ℕ
+  pub header : Headed s ns at
+  pub good : entriesGood (partOf s ns at) ≡ true
+  pub remain : at + recordSize * countOf ns < length s
+
+-- the entries are there and good, and nothing remains
+pub record Sound (s : List ℕ) : Type 0 where
+  pub ns : List ℕ
+  pub at : ℕ
+  pub header : Headed s ns at
+  pub good : entriesGood (partOf s ns at) ≡ true
+  pub end : at + recordSize * countOf ns ≡ length s
+
+pub record ReaderRows (s : List ℕ) (refusal : ℕ) : Type 0 where
+  pub two : refusal ≡ 2 ↔ (EndsInside s ⊎ TooFew s)
+  pub ten : refusal ≡ 10 ↔ Faulty 10 s
+  pub eleven : refusal ≡ 11 ↔ Faulty 11 s
+  pub twelve : refusal ≡ 12 ↔ BadEntry s
+  pub thirteen : refusal ≡ 13 ↔ Behind s
+  pub accepted : refusal ≡ 0 ↔ Sound s
+  pub never : refusal ≡ 5 → ⊥
+
+abbrev pub ReportReads : Type 0
+ReportReads = (s : List ℕ) → ReaderRows s (readReport s .refusal)
+
+-- ---- what breaks the rule of a place: ns are the numbers before it, v the number there
+
+-- 11: v is lost, and "total differs from received + late + lost"
+pub record SumBroken (ns : List ℕ) (v : ℕ) : Type 0 where
+  pub place : length ns ≡ 5
+  pub differs : getD ns 2 0 ≡ getD ns 3 0 + getD ns 4 0 + v → ⊥
+
+-- 10: v is the metric count, and above the limit
+pub record CountBroken (ns : List ℕ) (v : ℕ) : Type 0 where
+  pub place : length ns ≡ 7
+  pub above : mostMetrics < v
+
+-- a type or the entry count stands there, and not a value
+pub record Later (ns : List ℕ) : Type 0 where
+  pub behind : fixedNumbers ≤ length ns
+  pub even : length ns % 2 ≡ 1 → ⊥
+
+-- 10: v is a type, and no known one or not above the one before it
+pub record TypeBroken (ns : List ℕ) (v : ℕ) : Type 0 where
+  pub place : Later ns
+  pub metric : (length ns - fixedNumbers) / 2 ≡ getD ns 7 0 → ⊥
+  pub broken : (knownType v ≡ true) × (typeRises ns v ≡ true) → ⊥
+
+-- 10: v is the entry count, and above the limit
+pub record EntriesBroken (ns : List ℕ) (v : ℕ) : Type 0 where
+  pub place : Later ns
+  pub last : (length ns - fixedNumbers) / 2 ≡ getD ns 7 0
+  pub above : mostEntries < v
+
+pub record PlaceRows (ns : List ℕ) (v : ℕ) : Type 0 where
+  pub eleven : judge ns v ≡ 11 ↔ SumBroken ns v
+  pub ten : judge ns v ≡ 10 ↔ (CountBroken ns v ⊎ (TypeBroken ns v ⊎ EntriesBroken ns v))
+
+abbrev pub PlaceJudged : Type 0
+PlaceJudged = (ns : List ℕ) (v : ℕ) → PlaceRows ns v
+
+-- ---- what a record must obey: it is an entry, and its object number is above its forerunner's
+
+pub record Obeys (s : List ℕ) (i : ℕ) : Type 0 where
+  pub object : ℕ
+  pub status : Status
+  pub age : ℕ
+  pub entry : entryAt s i ≡ Record object status age
+  pub rises : (j : ℕ) → suc j ≡ i → objectOf (recordAt s j) < object
+
+-- 12 is for a record that does not obey
+abbrev pub EntriesJudged : Type 0
+EntriesJudged = (s : List ℕ) → entriesGood s ≡ true ↔ ((i : ℕ) → i < length s / recordSize → Obeys s i)
+
+-- ---- the writer
+
+-- total is received + late + lost
+abbrev pub SumHolds : Header → Type 0
+SumHolds h = h .total ≡ h .received + h .late + h .lost
+
+-- "At most 4 metrics, types strictly rising, from 0x02, 0x04, 0x10, 0x12"
+pub record MetricsObey (h : Header) : Type 0 where
+  pub few : h .metrics ≤ mostMetrics
+  pub known : (i : ℕ) → i < h .metrics → knownType (getD (h .kinds) i 0) ≡ true
+  pub rising : (i : ℕ) → suc i < h .metrics → getD (h .kinds) i 0 < getD (h .kinds) (suc i) 0
+
+-- the header passes: its numbers, its sum and its metrics
+pub record HeaderPasses (h : Header) : Type 0 where
+  pub small : Small (numbersOf h)
+  pub sum : SumHolds h
+  pub metrics : MetricsObey h
+
+-- and so do the records
+pub record Passes (h : Header) (entries : List ℕ) : Type 0 where
+  pub header : HeaderPasses h
+  pub even : length entries % recordSize ≡ 0
+  pub few : length entries / recordSize ≤ mostGiven
+  pub good : entriesGood entries ≡ true
+
+-- 10: the metrics break their rule
+pub record MetricsBroken (h : Header) : Type 0 where
+  pub small : Small (numbersOf h)
+  pub sum : SumHolds h
+  pub broken : MetricsObey h → ⊥
+
+-- 10: more than 256 records
+pub record TooMany (h : Header) (entries : List ℕ) : Type 0 where
+  pub header : HeaderPasses h
+  pub even : length entries % recordSize ≡ 0
+  pub many : mostGiven < length entries / recordSize
+
+-- 12: a length that is no multiple of 16
+pub record Ragged (h : Header) (entries : List ℕ) : Type 0 where
+  pub header : HeaderPasses h
+  pub ragged : length entries % recordSize ≡ 0 → ⊥
+
+-- 12: a record that breaks its rule
+pub record BadRecord (h : Header) (entries : List ℕ) : Type 0 where
+  pub header : HeaderPasses h
+  pub even : length entries % recordSize ≡ 0
+  pub few : length entries / recordSize ≤ mostGiven
+  pub bad : entriesGood entries ≡ false
+
+pub record WriterRows (h : Header) (entries : List ℕ) (room refusal : ℕ) : Type 0 where
+  pub five : refusal ≡ 5 ↔ (Small (numbersOf h) → ⊥)
+  pub eleven : refusal ≡ 11 ↔ (Small (numbersOf h) × (SumHolds h → ⊥))
+  pub ten : refusal ≡ 10 ↔ (MetricsBroken h ⊎ TooMany h entries)
+  pub twelve : refusal ≡ 12 ↔ (Ragged h entries ⊎ BadRecord h entries)
+  pub nine : refusal ≡ 9 ↔ (Passes h entries × (room < sizeOf (length (encodeAll (numbersOf h))) 0))
+  pub accepted : refusal ≡ 0 ↔ (Passes h entries × (sizeOf (length (encodeAll (numbersOf h))) 0 ≤ room))
+
+abbrev pub ReportWrites : Type 0
+ReportWrites = (h : Header) (entries : List ℕ) (room : ℕ) → WriterRows h entries room (writtenRefusal (writeAnswer h entries room))
+
+-- a refused write leaves every element as it was
+abbrev pub ReportUnchanged : Type 0
+ReportUnchanged = (h : Header) (entries xs : List ℕ) → (writtenRefusal (writeAnswer h entries (length xs)) ≡ 0 → ⊥) → writeBytes h entries xs ≡ xs

@@ -1,0 +1,111 @@
+-- The header as a list of numbers: 0 timestamp, 1 interval, 2 total, 3 received, 4 late, 5 lost, 6 average,
+-- 7 metric count, then a type and a value for each metric, then the entry count.
+use Prim.Native.Nat.{ℕ, zero, suc, _+_, _-_, _*_, _/_, _%_, min}
+use mathlib.Core.List.{List, [], _∷_, _++_}
+use mathlib.Core.Bool.{Bool, true, false}
+use lib.Dec.{eqb, leb, ltb}
+use lib.ListN.{length, getD}
+use lib.IntN.{pos}
+use Rattle.wire.specs.Bytes.{pick}
+use Rattle.report.specs.Limits.{mostMetrics, mostEntries, fixedNumbers}
+use Rattle.report.specs.Average.{storedOf, averageOf}
+use Rattle.report.specs.declared.Header.{Header}
+
+-- the refusal n unless the test holds
+abbrev pub unless : ℕ → Bool → ℕ
+unless n ok = pick ok 0 n
+
+-- ---- what each number brings: ns are the numbers so far, v the next one
+
+-- "from 0x02, 0x04, 0x10, 0x12"
+abbrev pub knownType : ℕ → Bool
+knownType v = pick (eqb v 0x02) true (pick (eqb v 0x04) true (pick (eqb v 0x10) true (eqb v 0x12)))
+
+-- "types strictly rising": the first one, or above the one before it
+abbrev pub typeRises : List ℕ → ℕ → Bool
+typeRises ns v = pick (eqb (length ns) fixedNumbers) true (ltb (getD ns (length ns - 2) 0) v)
+
+-- behind the metrics that were counted the entry count, otherwise a type
+unfoldable pub judgeLater : List ℕ → ℕ → ℕ
+judgeLater ns v =
+    pick (eqb ((length ns - fixedNumbers) / 2) (getD ns 7 0)) (unless 10 (leb v mostEntries))
+    (unless 10 (pick (knownType v) (typeRises ns v) false))
+
+-- "The sum (11) is checked after lost; 10 after each count or type"; 0 for no refusal, as for a metric's value
+unfoldable pub judge : List ℕ → ℕ → ℕ
+judge ns v =
+    pick (eqb (length ns) 5) (unless 11 (eqb (getD ns 2 0) (getD ns 3 0 + getD ns 4 0 + v)))
+    (pick (eqb (length ns) 7) (unless 10 (leb v mostMetrics))
+    (pick (ltb (length ns) fixedNumbers) 0
+    (pick (eqb (length ns % 2) 1) 0
+    (judgeLater ns v))))
+
+-- the first refusal of the numbers vs that follow ns
+unfoldable pub faultAfter : List ℕ → List ℕ → ℕ
+faultAfter ns [] = 0
+faultAfter ns (v ∷ vs) = pick (eqb (judge ns v) 0) (faultAfter (ns ++ (v ∷ [])) vs) (judge ns v)
+
+abbrev pub firstFault : List ℕ → ℕ
+firstFault vs = faultAfter [] vs
+
+-- how many numbers there are with the entry count, as far as the numbers so far tell
+abbrev pub wantedOf : List ℕ → ℕ
+wantedOf ns = fixedNumbers + 2 * min (getD ns 7 0) mostMetrics + 1
+
+-- the entry count is the last of the numbers
+abbrev pub countOf : List ℕ → ℕ
+countOf ns = getD ns (length ns - 1) 0
+
+-- ---- between the numbers and the header
+
+-- f i, and so on, n of them
+abbrev pub each : ℕ → ℕ → (ℕ → ℕ) → List ℕ
+each zero i f = []
+each (suc n) i f = f i ∷ each n (suc i) f
+
+-- what stands at the place, if metric i is among those counted
+abbrev pub metricAt : List ℕ → ℕ → ℕ → ℕ
+metricAt ns i place = pick (ltb i (getD ns 7 0)) (getD ns place 0) 0
+
+-- the header that the numbers are
+unfoldable pub headerOf : List ℕ → Header
+headerOf ns = record {
+  timestamp = getD ns 0 0;
+  interval = getD ns 1 0;
+  total = getD ns 2 0;
+  received = getD ns 3 0;
+  late = getD ns 4 0;
+  lost = getD ns 5 0;
+  average = averageOf (getD ns 6 0);
+  metrics = getD ns 7 0;
+  kinds = each mostMetrics 0 (λ i. metricAt ns i (fixedNumbers + 2 * i));
+  values = each mostMetrics 0 (λ i. metricAt ns i (fixedNumbers + 2 * i + 1));
+  entries = countOf ns;
+}
+
+-- "all numbers 0, no metrics, no entries", which a refused read hands back
+unfoldable pub emptyHeader : Header
+emptyHeader = record {
+  timestamp = 0;
+  interval = 0;
+  total = 0;
+  received = 0;
+  late = 0;
+  lost = 0;
+  average = pos 0;
+  metrics = 0;
+  kinds = each mostMetrics 0 (λ i. 0);
+  values = each mostMetrics 0 (λ i. 0);
+  entries = 0;
+}
+
+-- n metrics from the i-th on, each as its type and its value
+unfoldable pub pairs : ℕ → ℕ → List ℕ → List ℕ → List ℕ
+pairs zero i ks vs = []
+pairs (suc n) i ks vs = getD ks i 0 ∷ getD vs i 0 ∷ pairs n (suc i) ks vs
+
+-- the numbers of a header before the entry count; "metrics beyond the count or the limit are not looked at"
+unfoldable pub numbersOf : Header → List ℕ
+numbersOf h =
+    h .timestamp ∷ h .interval ∷ h .total ∷ h .received ∷ h .late ∷ h .lost ∷ storedOf (h .average) ∷ h .metrics
+    ∷ pairs (min (h .metrics) mostMetrics) 0 (h .kinds) (h .values)

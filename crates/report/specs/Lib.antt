@@ -1,0 +1,9 @@
+pub mod Limits
+pub mod Average
+pub mod Header
+pub mod Entries
+pub mod Reader
+pub mod Writer
+pub mod Refusals
+pub mod Exactly
+pub mod EachWay
