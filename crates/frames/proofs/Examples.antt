@@ -9,7 +9,7 @@ use Rattle.frames.specs.Frames.{readFrequency, readImmediate}
 use Rattle.frames.specs.Ack.{rangesFrom, readRanges, readAck, refused, gapsFrom, ackNumbers}
 use Rattle.frames.specs.Refusals.{frequencyRefusal, immediateRefusal}
 use Rattle.frames.specs.declared.Frequency.the-variants.{Frame}
-use Rattle.frames.specs.declared.Ack.the-variants.{Frame as Read, BelowZero, Ends, NoRoom}
+use Rattle.frames.specs.declared.Ack.the-variants.{Frame as Read, BelowZero, Ends, NoRoom, OtherType}
 
 -- a frame whose range count is 2^62 - 1
 abbrev pub far : List ℕ
@@ -23,7 +23,7 @@ pub record Examples : Type 0 where
   pub P1 : readFrequency (0x40 ∷ 0xaf ∷ 0x05 ∷ 0x0a ∷ 0x80 ∷ 0x00 ∷ 0x61 ∷ 0xa8 ∷ 0x03 ∷ []) ≡ Frame 5 10 25000 3 9
   pub long-type : immediateRefusal (readImmediate (0x40 ∷ 0x1f ∷ [])) ≡ 3
   pub longer-type : frequencyRefusal (readFrequency (0x80 ∷ 0x00 ∷ 0x00 ∷ 0xaf ∷ [])) ≡ 3
-  pub long-ack : (xs : List ℕ) → readAck (0x40 ∷ 0x02 ∷ []) xs .slice ≡ xs
+  pub long-ack : (xs : List ℕ) → readAck (0x40 ∷ 0x02 ∷ []) xs ≡ refused OtherType xs
   pub empty : frequencyRefusal (readFrequency []) ≡ 2
   pub cut-type : frequencyRefusal (readFrequency (0xaf ∷ [])) ≡ 2
   pub gap-below : (xs : List ℕ) → readAck (0x02 ∷ 0x05 ∷ 0x00 ∷ 0x01 ∷ 0x04 ∷ 0x02 ∷ []) xs ≡ refused BelowZero xs

@@ -1,0 +1,227 @@
+-- Along the calls: what an accepted call makes of the record that the calls before it tell is the record that they and it tell, so from an opening the two agree.
+-- Assumes nothing.
+use Prim.Native.Nat.{ℕ, zero, suc, _+_, _^_, _≤_, _<_, min, max}
+use mathlib.Core.Path.{_≡_, refl, sym, ap, ap₂, subst, _∙_}
+use mathlib.Core.Bool.{Bool, true, false}
+use mathlib.Core.List.{List, [], _∷_}
+use native.Mathlib.Nat.{le-min, min-eq-left, min-eq-right, max-eq-left, max-eq-right}
+use native.Mathlib.Omega.{arith}
+use borrow.Author.Tests.{le-ltb, lt-ltb, ne-eqb}
+use lib.Dec.{eqb}
+use lib.ListN.{length}
+use Rattle.wire.specs.Bytes.{pick}
+use Rattle.wire.proofs.Lengths.{split}
+use Rattle.receiver.specs.declared.Millis.{Millis}
+use Rattle.receiver.specs.declared.Micros.{Micros}
+use Rattle.receiver.specs.declared.Seen.{Seen}
+use Rattle.receiver.specs.declared.Pending.{Pending}
+use Rattle.receiver.specs.declared.Agreed.{Agreed}
+use Rattle.receiver.specs.declared.Receiver.{Receiver}
+use Rattle.receiver.specs.Packet.{pendingAfter, firstCause, congestion, causeAfter, packetAfter, standing, judged}
+use Rattle.receiver.specs.Calls.{opened, usual, openRefusal, openCall, timerDue, agreedAfter}
+use Rattle.receiver.specs.Write.{written}
+use Rattle.promises.specs.Sequence.{Call, packet, timer, immediate, threshold, write, Calls, none, _then_, Reply, accepted, stale, refused, after, replied, opening}
+use Rattle.promises.specs.Accepted.{Packet, Frame, packetOf, frameOf, joined, acceptedOf, packets, since, before, frames}
+use Rattle.promises.specs.Told.{largest, elicitingOf, arrivalOf, firstArrival, lastMark, largestSequence, valuesOf, inForce, seenOf, leftArrival, pendingOf, tell}
+use Rattle.promises.specs.Due.{known, ofPacket, due}
+use Rattle.promises.proofs.Step.{made, Meets, PacketMeets, step-kept, step-made, step-meets}
+use Rattle.promises.proofs.Marks.{told-none, seen, seen-told}
+
+-- ---- N, U and the first arrival
+
+-- N with one packet more
+count-more : (k : ℕ) → min (min k (2 ^ 62) + 1) (2 ^ 62) ≡ min (suc k) (2 ^ 62)
+count-more k =
+    split (2 ^ 62) k
+    (λ h.
+    let a : 2 ^ 62 ≤ 2 ^ 62 + 1 = omega arith in
+    let b : 2 ^ 62 ≤ suc k = omega arith in
+    ap (λ (x : ℕ). min (x + 1) (2 ^ 62)) (min-eq-right h) ∙ min-eq-right a ∙ sym (min-eq-right b))
+    (λ h.
+    let a : k ≤ 2 ^ 62 = omega arith in
+    let b : k + 1 ≡ suc k = omega arith in
+    ap (λ (x : ℕ). min (x + 1) (2 ^ 62)) (min-eq-left a) ∙ ap (λ (x : ℕ). min x (2 ^ 62)) b)
+
+-- the first arrival with one packet more: the packet's time only where it is the first
+first-more : (other time : Micros) (p : Packet) (ps : List Packet) → p .time ≡ time
+    → pick (eqb (min (length ps) (2 ^ 62)) 0) time (firstArrival other ps) ≡ firstArrival other (p ∷ ps)
+unfolding firstArrival
+first-more other time p [] e = sym e
+first-more other time p (x ∷ ps) e =
+    let l : 1 ≤ min (length (x ∷ ps)) (2 ^ 62) = le-min (omega arith) (omega arith) in
+    ap (λ (b : Bool). pick b time (firstArrival (x .time) ps)) (ne-eqb (min (length (x ∷ ps)) (2 ^ 62)) 0 (λ z. omega arith))
+
+pending-told : (cs : Calls) (n : ℕ) (time : Micros) (marked : Bool)
+    → pendingAfter (pendingOf cs) n time ≡ pendingOf (cs then packet n time true marked)
+unfolding pendingAfter pendingOf since elicitingOf leftArrival largest
+pending-told cs n time marked =
+    let ps : List Packet = elicitingOf (since cs) in
+    ap₂ (λ (k : ℕ) (first : Micros). record { count = k; end = max (largest ps) (n + 1); first = first }) (count-more (length ps))
+    (first-more (leftArrival cs) time (packetOf n time true marked) ps refl)
+
+-- ---- the values in force
+
+-- a frame above the others is in force, and one that is not leaves theirs
+above-others : (a : Agreed) (f : Frame) (fs : List Frame) → largestSequence fs ≤ f .sequence → inForce a (f ∷ fs) ≡ valuesOf f
+unfolding inForce
+above-others a f fs h = ap (λ (b : Bool). pick b (inForce a fs) (valuesOf f)) (le-ltb (f .sequence) (largestSequence fs) h)
+
+below-others : (a : Agreed) (f : Frame) (fs : List Frame) → f .sequence < largestSequence fs → inForce a (f ∷ fs) ≡ inForce a fs
+unfolding inForce
+below-others a f fs h = ap (λ (b : Bool). pick b (inForce a fs) (valuesOf f)) (lt-ltb (f .sequence) (largestSequence fs) h)
+
+-- the sequence in force is the largest, where the opening had none
+sequence-told : (a : Agreed) (fs : List Frame) → a .sequence ≡ 0 → inForce a fs .sequence ≡ largestSequence fs
+unfolding inForce largestSequence
+sequence-told a [] e = e
+sequence-told a (f ∷ fs) e =
+    split (largestSequence fs) (f .sequence)
+    (λ h.
+    let l : largestSequence fs ≤ f .sequence + 1 = omega arith in
+    ap (λ (x : Agreed). x .sequence) (above-others a f fs h) ∙ sym (max-eq-right l))
+    (λ h.
+    let l : f .sequence + 1 ≤ largestSequence fs = omega arith in
+    ap (λ (x : Agreed). x .sequence) (below-others a f fs h) ∙ sequence-told a fs e ∙ sym (max-eq-left l))
+
+-- ---- each call on the record that is told
+
+module _ (o : Receiver) (cs : Calls) (cause : ℕ) where
+  plain-told : (n : ℕ) (time : Micros) (marked : Bool) → PacketMeets (seenOf cs) n time
+      → packetAfter (tell o cs cause) n time false marked ≡ tell o (cs then packet n time false marked) cause
+  unfolding packetAfter seenOf packets since before frames elicitingOf lastMark leftArrival pendingOf
+  plain-told n time marked m =
+      ap (λ (s : Seen). record {
+        seen = s;
+        pending = pendingOf cs;
+        agreed = inForce (o .agreed) (frames cs);
+        limits = o .limits;
+        acknowledged = largest (before cs);
+        highest = largest (elicitingOf (packets cs));
+        marked = marked;
+        cause = cause;
+      }) (seen-told (packetOf n time false marked) (packets cs) (m .window))
+
+  eliciting-told : (n : ℕ) (time : Micros) (marked : Bool) → PacketMeets (seenOf cs) n time
+      → packetAfter (tell o cs cause) n time true marked ≡ tell o (cs then packet n time true marked) (standing cause (ofPacket o cs n time marked))
+  unfolding packetAfter seenOf packets before frames elicitingOf lastMark largest causeAfter firstCause congestion
+  eliciting-told n time marked m =
+      ap₂ (λ (s : Seen) (p : Pending). record {
+        seen = s;
+        pending = p;
+        agreed = inForce (o .agreed) (frames cs);
+        limits = o .limits;
+        acknowledged = largest (before cs);
+        highest = max (largest (elicitingOf (packets cs))) (n + 1);
+        marked = marked;
+        cause = standing cause (firstCause (known o cs) n marked s p);
+      }) (seen-told (packetOf n time true marked) (packets cs) (m .window)) (pending-told cs n time marked)
+
+-- the record that is told with its cause
+abbrev whole : Receiver → Calls → Receiver
+whole o cs = tell o cs (due o cs)
+
+timer-told : (o : Receiver) (cs : Calls) (time : Micros) → made (whole o cs) (timer time) ≡ whole o (cs then timer time)
+unfolding seenOf packets since before frames leftArrival pendingOf due timerDue
+timer-told o cs time = refl
+
+immediate-told : (o : Receiver) (cs : Calls) → made (whole o cs) immediate ≡ whole o (cs then immediate)
+unfolding seenOf packets since before frames leftArrival pendingOf due
+immediate-told o cs = refl
+
+write-told : (o : Receiver) (cs : Calls) (time : Micros) (room : ℕ) → made (whole o cs) (write time room) ≡ whole o (cs then write time room)
+unfolding seenOf packets since before frames leftArrival pendingOf due written elicitingOf largest firstArrival
+write-told o cs time room = refl
+
+threshold-told : (o : Receiver) (cs : Calls) (s t : ℕ) (d : Micros) (q : ℕ) → largestSequence (frames cs) ≤ s
+    → made (whole o cs) (threshold s t d q) ≡ whole o (cs then threshold s t d q)
+unfolding seenOf packets since before frames leftArrival pendingOf due agreedAfter
+threshold-told o cs s t d q h =
+    ap (λ (a : Agreed). record {
+      seen = seenOf cs;
+      pending = pendingOf cs;
+      agreed = a;
+      limits = o .limits;
+      acknowledged = largest (before cs);
+      highest = largest (elicitingOf (packets cs));
+      marked = lastMark (packets cs);
+      cause = due o cs;
+    }) (sym (above-others (o .agreed) (frameOf s t d q) (frames cs) h))
+
+packet-told : (o : Receiver) (cs : Calls) (n : ℕ) (time : Micros) (eliciting marked : Bool) → PacketMeets (seenOf cs) n time
+    → made (whole o cs) (packet n time eliciting marked) ≡ whole o (cs then packet n time eliciting marked)
+unfolding due
+packet-told o cs n time true marked m = eliciting-told o cs (due o cs) n time marked m
+packet-told o cs n time false marked m = plain-told o cs (due o cs) n time marked m
+
+made-told : (o : Receiver) → o .agreed .sequence ≡ 0 → (cs : Calls) (c : Call) → Meets (whole o cs) c → made (whole o cs) c ≡ whole o (cs then c)
+made-told o z cs (packet n time eliciting marked) m = packet-told o cs n time eliciting marked m
+made-told o z cs (timer time) m = timer-told o cs time
+made-told o z cs immediate m = immediate-told o cs
+made-told o z cs (threshold s t d q) m = threshold-told o cs s t d q (omega (arith, sequence-told (o .agreed) (frames cs) z, m .newer))
+made-told o z cs (write time room) m = write-told o cs time room
+
+-- ---- along the calls
+
+-- one call more, by its reply
+module _ (o : Receiver) (z : o .agreed .sequence ≡ 0) (cs acc : Calls) (e : after o cs ≡ whole o acc) (c : Call) where
+  not-joined : (replied o cs c ≡ accepted → ⊥) → after o (cs then c) ≡ whole o acc
+  unfolding after
+  not-joined f = step-kept (after o cs) c f ∙ e
+
+  one-more : (a : Reply) → replied o cs c ≡ a → after o (cs then c) ≡ whole o (joined a acc c)
+  unfolding after
+  one-more accepted h =
+      step-made (after o cs) c h ∙ ap (λ (r : Receiver). made r c) e ∙ made-told o z acc c (subst (λ (r : Receiver). Meets r c) e (step-meets (after o cs) c h))
+  one-more stale h = not-joined (λ f. let z : _≡_ {A = ℕ} 0 1 = cc in omega arith)
+  one-more (refused k) h = not-joined (λ f. let z : _≡_ {A = ℕ} 0 1 = cc in omega arith)
+
+-- what a record must be for calls to start from it
+record Start (o : Receiver) : Type 0 where
+  sequence : o .agreed .sequence ≡ 0
+  told : o ≡ whole o none
+
+follows : (o : Receiver) → Start o → (cs : Calls) → after o cs ≡ whole o (acceptedOf o cs)
+unfolding acceptedOf after
+follows o s none = s .told
+follows o s (cs then c) = one-more o (s .sequence) cs (acceptedOf o cs) (follows o s cs) c (replied o cs c) refl
+
+opened-starts : (t q : ℕ) (m : Millis) (u : Micros) → Start (opened t q m u)
+unfolding opened seenOf packets since before frames leftArrival pendingOf due elicitingOf largest firstArrival lastMark inForce arrivalOf
+opened-starts t q m u = record { sequence = refl; told = rw told-none }
+
+starts : (t q : ℕ) (m : Millis) (u : Micros) → Start (opening t q m u)
+unfolding openCall
+starts t q m u = go (openRefusal t q m u)
+  where
+    go : (k : ℕ) → Start (judged k usual (opened t q m u) .next)
+    go zero = opened-starts t q m u
+    go (suc k) = opened-starts 1 1 (record { 0 = 25 }) (record { 0 = 1000 })
+
+-- ---- from an opening
+
+module _ (t q : ℕ) (m : Millis) (u : Micros) (cs : Calls) where
+  abbrev o : Receiver
+  o = opening t q m u
+
+  abbrev acc : Calls
+  acc = acceptedOf (opening t q m u) cs
+
+  -- the record is the one that is told
+  pub agrees : after o cs ≡ tell o acc (due o acc)
+  agrees = follows o (starts t q m u) cs
+
+  pub cause-is : after o cs .cause ≡ due o acc
+  cause-is = ap (λ (r : Receiver). r .cause) agrees
+
+  pub seen-is : after o cs .seen ≡ seenOf acc
+  seen-is = ap (λ (r : Receiver). r .seen) agrees
+
+  pub end-is : after o cs .seen .end ≡ largest (packets acc)
+  unfolding seenOf
+  end-is = ap (λ (s : Seen). s .end) seen-is
+
+  pub limits-are : after o cs .limits ≡ o .limits
+  limits-are = ap (λ (r : Receiver). r .limits) agrees
+
+  pub sequence-is : after o cs .agreed .sequence ≡ largestSequence (frames acc)
+  sequence-is = ap (λ (r : Receiver). r .agreed .sequence) agrees ∙ sequence-told (o .agreed) (frames acc) (starts t q m u .sequence)

@@ -1,0 +1,12 @@
+pub mod Sequence
+pub mod Accepted
+pub mod Kept
+pub mod Unchanged
+pub mod Told
+pub mod Replies
+pub mod Order
+pub mod Due
+pub mod Passed
+pub mod Counted
+pub mod Bound
+pub mod Reached

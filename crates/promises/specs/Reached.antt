@@ -1,0 +1,100 @@
+-- Sequences that meet the premise of demand 3: four reach its bound, and in the last each of three frames makes one number passed over count anew.
+use Prim.Native.Nat.{ℕ, zero, suc, _^_}
+use mathlib.Core.Path.{_≡_}
+use mathlib.Core.Bool.{true, false}
+use mathlib.Core.List.{List, [], _∷_}
+use Rattle.receiver.specs.declared.Millis.{Millis}
+use Rattle.receiver.specs.declared.Micros.{Micros}
+use Rattle.promises.specs.Sequence.{Call, packet, timer, immediate, threshold, write, none, inOrder, opening}
+use Rattle.promises.specs.Counted.{acceptedCalls, S, openingT, Counts, counts, counted}
+use Rattle.promises.specs.Bound.{onlyDue, bound}
+
+-- the usual delays
+abbrev pub usualMaximum : Millis
+usualMaximum = record { 0 = 25 }
+
+abbrev pub usualMinimum : Micros
+usualMinimum = record { 0 = 1000 }
+
+-- the accepted ones of the calls, after an opening with T and R
+abbrev pub acceptedOf : ℕ → ℕ → List Call → List Call
+acceptedOf t q calls = acceptedCalls (opening t q usualMaximum usualMinimum) (inOrder none calls)
+
+-- n acknowledgments are written, each while one is due, and the bound is n
+pub record Reaches (t q : ℕ) (calls : List Call) (n : ℕ) : Type 0 where
+  pub due : onlyDue (opening t q usualMaximum usualMinimum) (inOrder none calls) ≡ true
+  pub written : counted (acceptedOf t q calls) .W ≡ n
+  pub most : bound (openingT t q usualMaximum usualMinimum) (acceptedOf t q calls) ≡ n
+
+-- each acknowledgment is written while one is due; the counts E, F, C, I, D, W of the calls, and S
+pub record Comes (t q : ℕ) (calls : List Call) (n : Counts) (s : ℕ) : Type 0 where
+  pub due : onlyDue (opening t q usualMaximum usualMinimum) (inOrder none calls) ≡ true
+  pub counts : counted (acceptedOf t q calls) ≡ n
+  pub passed : S (acceptedOf t q calls) ≡ s
+
+-- ---- calls
+
+-- time 0
+abbrev pub start : Micros
+start = record { 0 = 0 }
+
+-- packet n, ack-eliciting, without CE
+abbrev pub arrives : ℕ → Call
+arrives n = packet n start true false
+
+-- a write in room 64
+abbrev pub writes : Call
+writes = write start 64
+
+-- n packets from number m on, and a write after each
+unfoldable pub eachWritten : ℕ → ℕ → List Call
+eachWritten zero m = []
+eachWritten (suc n) m = arrives m ∷ writes ∷ eachWritten n (suc m)
+
+-- five packets exceed T 4; 6 passes 5 over; 5 comes late; 7 has CE; 8 waits for the timer; IMMEDIATE_ACK
+abbrev pub everyCause : List Call
+everyCause =
+    arrives 0 ∷ arrives 1 ∷ arrives 2 ∷ arrives 3 ∷ arrives 4 ∷ writes
+    ∷ arrives 6 ∷ writes
+    ∷ arrives 5 ∷ writes
+    ∷ packet 7 start true true ∷ writes
+    ∷ arrives 8 ∷ timer (record { 0 = 25000 }) ∷ writes
+    ∷ immediate ∷ writes
+    ∷ []
+
+-- a frame lowers T to 1; no count has the stale frame after it, number 2 the second time (6), the write without room (9), or 3, not ack-eliciting, in E or C
+abbrev pub someRefused : List Call
+someRefused =
+    threshold 5 1 (record { 0 = 25000 }) 1 ∷ threshold 5 0 (record { 0 = 25000 }) 1
+    ∷ arrives 0 ∷ arrives 1 ∷ writes
+    ∷ arrives 2 ∷ arrives 2 ∷ write start 1
+    ∷ packet 3 start false true
+    ∷ []
+
+-- frame number n asks for R = q, with T 9
+abbrev pub asks : ℕ → ℕ → Call
+asks n q = threshold n 9 (record { 0 = 25000 }) q
+
+-- number 0 is passed over by 1; each larger R makes it unreported again
+abbrev pub raisedR : List Call
+raisedR =
+    arrives 1 ∷ writes
+    ∷ asks 0 2 ∷ arrives 2 ∷ writes
+    ∷ asks 1 3 ∷ arrives 3 ∷ writes
+    ∷ asks 2 4 ∷ arrives 4 ∷ writes
+    ∷ []
+
+-- ---- the statement
+
+-- the bound is reached, and F is needed
+pub record Reached : Type 0 where
+  -- T 0: twenty writes for E = 20
+  pub manyWrites : Reaches 0 1 (eachWritten 20 0) 20
+  -- T 4, R 1: six writes, and 9 / (4 + 1) + 2 x 1 x (0 + 1) + (1 + 1 + 1)
+  pub everyCause : Reaches 4 1 everyCause 6
+  -- T 4, then 1: one write, and 3 / (1 + 1)
+  pub someRefused : Reaches 4 1 someRefused 1
+  -- a refused opening: T is 1, one write, and 2 / (1 + 1)
+  pub refusedOpening : Reaches (2 ^ 62) 0 (arrives 0 ∷ arrives 1 ∷ writes ∷ []) 1
+  -- T 9, R 1, then 2, 3, 4: four writes for S = 1
+  pub raisedR : Comes 9 1 raisedR (counts 4 3 0 0 0 4) 1

@@ -1,0 +1,51 @@
+-- Replies: every reply along calls from an opening is that of the refusal table, its rows read from the accepted calls before it.
+-- So the calls alone, no record, say which of them are accepted.
+use Prim.Native.Nat.{ℕ}
+use mathlib.Core.Path.{_≡_}
+use mathlib.Core.Bool.{not, _&&_}
+use mathlib.Core.List.{[], _∷_}
+use lib.Dec.{leb, ltb, eqb}
+use Rattle.receiver.specs.declared.Millis.{Millis}
+use Rattle.receiver.specs.declared.Micros.{Micros}
+use Rattle.receiver.specs.declared.Receiver.{Receiver}
+use Rattle.receiver.specs.Record.{small, floor, delayRule}
+use Rattle.receiver.specs.Write.{fits, ackDelay}
+use Rattle.receiver.specs.Exactly.{row, first, verdictOf}
+use Rattle.promises.specs.Sequence.{Call, packet, timer, immediate, threshold, write, Calls, none, _then_, Reply, replyOf, replyTo, replied, opening}
+use Rattle.promises.specs.Accepted.{joined, acceptedOf, packets, frames}
+use Rattle.promises.specs.Told.{largest, among, largestSequence, seenOf}
+
+-- the rows that concern a call after accepted calls; 1 never comes, and stale comes after every refusal
+unfoldable pub replyAfter : Receiver → Calls → Call → Reply
+replyAfter opened cs (packet n time eliciting marked) =
+    replyOf
+    (first
+    (row 5 (not (small n && small (time .0)))
+    ∷ row 6 (leb (floor (largest (packets cs))) n && (ltb n (largest (packets cs)) && among (packets cs) n))
+    ∷ row 7 (ltb n (floor (largest (packets cs))))
+    ∷ []))
+replyAfter opened cs (timer time) = replyOf (first (row 5 (not (small (time .0))) ∷ []))
+replyAfter opened cs immediate = replyOf (first (row 8 (eqb (largest (packets cs)) 0) ∷ []))
+replyAfter opened cs (threshold s t d q) =
+    replyTo
+    (verdictOf (first (row 5 (not (small s && (small t && (small (d .0) && small q)))) ∷ row 4 (not (delayRule (opened .limits) d)) ∷ []))
+    (ltb s (largestSequence (frames cs))))
+replyAfter opened cs (write time room) =
+    replyOf
+    (first
+    (row 5 (not (small (time .0)))
+    ∷ row 8 (eqb (largest (packets cs)) 0)
+    ∷ row 9 (not (fits (seenOf cs) (ackDelay (seenOf cs) time) room 1))
+    ∷ []))
+
+-- the accepted calls, by these rows
+unfoldable pub acceptedAfter : Receiver → Calls → Calls
+acceptedAfter opened none = none
+acceptedAfter opened (cs then c) = joined (replyAfter opened (acceptedAfter opened cs) c) (acceptedAfter opened cs) c
+
+pub record Replies : Type 0 where
+  -- the reply to each call
+  pub reply : (t q : ℕ) (m : Millis) (u : Micros) (cs : Calls) (c : Call)
+      → replied (opening t q m u) cs c ≡ replyAfter (opening t q m u) (acceptedOf (opening t q m u) cs) c
+  -- the accepted calls
+  pub accepted-are : (t q : ℕ) (m : Millis) (u : Micros) (cs : Calls) → acceptedOf (opening t q m u) cs ≡ acceptedAfter (opening t q m u) cs
