@@ -18,12 +18,14 @@ use Rattle.receiver.specs.Write.{written}
 use Rattle.receiver.proofs.Raised.{seen-end}
 use Rattle.promises.specs.Sequence.{Call, packet, timer, immediate, threshold, write, Calls, none, _then_, after, step, opening}
 use Rattle.promises.specs.Passed.{oneIf}
-use Rattle.promises.specs.Counted.{isAccepted, acceptedCalls, numbers, T, openingT, counted}
+use Rattle.promises.specs.Accepted.{acceptedOf}
+use Rattle.promises.specs.Counted.{isAccepted, lastFirst, acceptedCalls, numbers, T, openingT, counted}
 use Rattle.promises.specs.Bound.{isWrite, isDue, onlyDue, bound, WrittenAtMost}
 use Rattle.promises.proofs.Truth.{both-left, both-right}
 use Rattle.promises.proofs.Tallied.{Tallied, paid, counted-step, set-step, write-step, change-step, grown, ordered, bounded}
 use Rattle.promises.proofs.Charged.{Fresh, fresh, Marks, marks-none, marks-grow, rises}
-use Rattle.promises.proofs.Steps.{left, refusal, by-step}
+use Rattle.promises.proofs.Step.{made}
+use Rattle.promises.proofs.Steps.{refusal, by-step, accepted-next}
 use Rattle.promises.proofs.Congestion.{AsTold, told-opening, told-after}
 
 -- the tally of the accepted calls against the record, where the cause is c
@@ -52,7 +54,7 @@ record Holds (t : ℕ) (cs : List Call) (r : Receiver) : Type 0 where
   tally : TallyAt t cs r (r .cause)
 
 module _ (t : ℕ) (cs : List Call) (r : Receiver) (v : Holds t cs r) where
-  timer-holds : (time : Micros) → Holds t (timer time ∷ cs) (left r (timer time))
+  timer-holds : (time : Micros) → Holds t (timer time ∷ cs) (made r (timer time))
   unfolding numbers counted T
   timer-holds time =
       record {
@@ -62,7 +64,7 @@ module _ (t : ℕ) (cs : List Call) (r : Receiver) (v : Holds t cs r) where
         tally = simp add-zero (set-step (r .cause) (pick (timerDue r time) 5 0) (counted cs .C + counted cs .I + (counted cs .D + 1)) (omega arith) (v .tally));
       }
 
-  immediate-holds : Holds t (immediate ∷ cs) (left r immediate)
+  immediate-holds : Holds t (immediate ∷ cs) (made r immediate)
   unfolding numbers counted T
   immediate-holds =
       record {
@@ -72,7 +74,7 @@ module _ (t : ℕ) (cs : List Call) (r : Receiver) (v : Holds t cs r) where
         tally = simp add-zero (set-step (r .cause) 1 (counted cs .C + (counted cs .I + 1) + counted cs .D) (omega arith) (v .tally));
       }
 
-  threshold-holds : (sequence u : ℕ) (delay : Micros) (q : ℕ) → Holds t (threshold sequence u delay q ∷ cs) (left r (threshold sequence u delay q))
+  threshold-holds : (sequence u : ℕ) (delay : Micros) (q : ℕ) → Holds t (threshold sequence u delay q ∷ cs) (made r (threshold sequence u delay q))
   unfolding numbers counted T agreedAfter
   threshold-holds sequence u delay q =
       record {
@@ -82,7 +84,7 @@ module _ (t : ℕ) (cs : List Call) (r : Receiver) (v : Holds t cs r) where
         tally = simp add-zero (change-step u q (v .marks .ends) (v .high) (v .tally));
       }
 
-  write-holds : (time : Micros) (room : ℕ) → isDue r ≡ true → Holds t (write time room ∷ cs) (left r (write time room))
+  write-holds : (time : Micros) (room : ℕ) → isDue r ≡ true → Holds t (write time room ∷ cs) (made r (write time room))
   unfolding numbers counted T written
   write-holds time room d =
       record {
@@ -100,7 +102,7 @@ module _ (t : ℕ) (cs : List Call) (r : Receiver) (v : Holds t cs r) where
   x′ g = counted cs .C + oneIf g + counted cs .I + counted cs .D
 
   -- a packet that is not ack-eliciting
-  plain-holds : (n : ℕ) (time : Micros) (marked : Bool) → Fresh (r .seen) n → Holds t (packet n time false marked ∷ cs) (left r (packet n time false marked))
+  plain-holds : (n : ℕ) (time : Micros) (marked : Bool) → Fresh (r .seen) n → Holds t (packet n time false marked ∷ cs) (made r (packet n time false marked))
   unfolding numbers counted T packetAfter x
   plain-holds n time marked f =
       let e : seenAfter (r .seen) n time .end ≡ max (r .seen .end) (n + 1) = seen-end (r .seen) n time in
@@ -170,7 +172,7 @@ module _ (t : ℕ) (cs : List Call) (r : Receiver) (v : Holds t cs r) where
     cause-holds zero old false p false q true = paid 3 (x′ true) (omega arith) (grow 0 x (omega arith) old)
     cause-holds zero old false p false q false = grow 0 (x′ false) (omega arith) old
 
-    got-holds : AsTold r cs → Holds t (packet n time true marked ∷ cs) (left r (packet n time true marked))
+    got-holds : AsTold r cs → Holds t (packet n time true marked ∷ cs) (made r (packet n time true marked))
     unfolding numbers counted T packetAfter pendingAfter causeAfter firstCause congestion Grown x′
     got-holds told =
         let e : seenAfter (r .seen) n time .end ≡ max (r .seen .end) (n + 1) = seen-end (r .seen) n time in
@@ -192,7 +194,7 @@ module _ (t : ℕ) (cs : List Call) (r : Receiver) (v : Holds t cs r) where
         }
 
   -- an accepted call; a write finds an acknowledgment due
-  call-holds : AsTold r cs → (c : Call) → refusal r c ≡ 0 → pick (isWrite c && true) (isDue r) true ≡ true → Holds t (c ∷ cs) (left r c)
+  call-holds : AsTold r cs → (c : Call) → refusal r c ≡ 0 → pick (isWrite c && true) (isDue r) true ≡ true → Holds t (c ∷ cs) (made r c)
   call-holds told (packet n time true marked) z d = got-holds n time marked (fresh r n time z) told
   call-holds told (packet n time false marked) z d = plain-holds n time marked (fresh r n time z)
   call-holds told (timer time) z d = timer-holds time
@@ -203,18 +205,19 @@ module _ (t : ℕ) (cs : List Call) (r : Receiver) (v : Holds t cs r) where
 -- every sequence from a record of which it holds
 module _ (t : ℕ) (r : Receiver) (told : AsTold r []) (start : Holds t [] r) where
   all-hold : (cs : Calls) → onlyDue r cs ≡ true → Holds t (acceptedCalls r cs) (after r cs)
-  unfolding onlyDue acceptedCalls after
+  unfolding onlyDue acceptedOf lastFirst after
   all-hold none d = start
   all-hold (cs then c) d =
       let p : Bool = pick (isWrite c && isAccepted (step (after r cs) c .reply)) (isDue (after r cs)) true in
       let before : Holds t (acceptedCalls r cs) (after r cs) = all-hold cs (both-left (onlyDue r cs) p d) in
-      by-step
+      rw (accepted-next (step (after r cs) c .reply) (acceptedOf r cs) c)
+      (by-step
       (λ b q. pick (isWrite c && b) (isDue (after r cs)) true ≡ true → Holds t (pick b (c ∷ acceptedCalls r cs) (acceptedCalls r cs)) q)
       (after r cs)
       (λ e. before)
       c
       (λ z e. call-holds t (acceptedCalls r cs) (after r cs) before (told-after r told cs) c z e)
-      (both-right (onlyDue r cs) p d)
+      (both-right (onlyDue r cs) p d))
 
   at-most : (cs : Calls) → onlyDue r cs ≡ true → counted (acceptedCalls r cs) .W ≤ bound t (acceptedCalls r cs)
   at-most cs d = let v : Holds t (acceptedCalls r cs) (after r cs) = all-hold cs d in bounded (v .marks .ends) (v .high) (v .tally)

@@ -18,9 +18,11 @@ use Rattle.receiver.specs.Write.{written}
 use Rattle.receiver.proofs.Raised.{seen-end}
 use Rattle.promises.specs.Sequence.{Call, packet, timer, immediate, threshold, write, Calls, none, _then_, after, step, opening}
 use Rattle.promises.specs.Passed.{oneIf}
-use Rattle.promises.specs.Counted.{isAccepted, acceptedCalls, unmarked, counted}
+use Rattle.promises.specs.Accepted.{acceptedOf}
+use Rattle.promises.specs.Counted.{isAccepted, lastFirst, acceptedCalls, unmarked, counted}
 use Rattle.promises.specs.Bound.{startsCongestion, congestionStarts, StartsAsRead}
-use Rattle.promises.proofs.Steps.{left, by-step}
+use Rattle.promises.proofs.Step.{made}
+use Rattle.promises.proofs.Steps.{by-step, accepted-next}
 
 -- the previously accepted packet had no CE mark, or there was none: as the record has it, and as the calls have it
 abbrev pub AsTold : Receiver → List Call → Type 0
@@ -31,7 +33,7 @@ end-pos : (s : Seen) (n : ℕ) (time : Micros) → eqb (seenAfter s n time .end)
 end-pos s n time = ne-eqb (seenAfter s n time .end) 0 (λ e. omega (arith, seen-end s n time))
 
 -- an accepted call keeps that
-told-left : (r : Receiver) (cs : List Call) (c : Call) → AsTold r cs → AsTold (left r c) (c ∷ cs)
+told-left : (r : Receiver) (cs : List Call) (c : Call) → AsTold r cs → AsTold (made r c) (c ∷ cs)
 unfolding unmarked packetAfter agreedAfter written
 told-left r cs (packet n time true marked) h = rw (end-pos (r .seen) n time)
 told-left r cs (packet n time false marked) h = rw (end-pos (r .seen) n time)
@@ -51,20 +53,21 @@ starts-same r cs (write time room) h = refl
 
 module _ (r : Receiver) (h : AsTold r []) where
   pub told-after : (cs : Calls) → AsTold (after r cs) (acceptedCalls r cs)
-  unfolding after acceptedCalls
+  unfolding after acceptedOf lastFirst
   told-after none = h
   told-after (cs then c) =
-      by-step
+      rw (accepted-next (step (after r cs) c .reply) (acceptedOf r cs) c)
+      (by-step
       (λ b q. AsTold q (pick b (c ∷ acceptedCalls r cs) (acceptedCalls r cs)))
       (after r cs)
       (told-after cs)
       c
-      (λ z. told-left (after r cs) (acceptedCalls r cs) c (told-after cs))
+      (λ z. told-left (after r cs) (acceptedCalls r cs) c (told-after cs)))
 
   starts : (cs : Calls) → congestionStarts r cs ≡ counted (acceptedCalls r cs) .C
-  unfolding congestionStarts acceptedCalls counted
+  unfolding congestionStarts acceptedOf lastFirst counted
   starts none = refl
-  starts (cs then c) = rw (starts cs) (go (isAccepted (step (after r cs) c .reply)))
+  starts (cs then c) = rw (starts cs, accepted-next (step (after r cs) c .reply) (acceptedOf r cs) c) (go (isAccepted (step (after r cs) c .reply)))
     where
       go : (b : Bool) → counted (acceptedCalls r cs) .C + oneIf (b && startsCongestion (after r cs) c) ≡ counted (pick b (c ∷ acceptedCalls r cs) (acceptedCalls r cs)) .C
       go true = sym (starts-same (after r cs) (acceptedCalls r cs) c (told-after cs))

@@ -26,7 +26,8 @@ use Rattle.receiver.proofs.Clauses.{consistent-exactly}
 use Rattle.receiver.proofs.Raised.{seen-end}
 use Rattle.promises.specs.Sequence.{Call, packet, timer, immediate, threshold, write, Calls, none, _then_, Reply, accepted, stale, refused, step, after, opening}
 use Rattle.promises.specs.Kept.{Kept}
-use Rattle.promises.proofs.Step.{left, right, passed, not-zero, made, Meets, PacketMeets, FrameMeets, step-kept, step-made, step-meets, not-one}
+use Rattle.promises.proofs.Truth.{both-left, both-right}
+use Rattle.promises.proofs.Step.{passed, not-zero, made, Meets, PacketMeets, FrameMeets, step-kept, step-made, step-meets, not-one}
 
 -- two numbers are the same or not
 pub by-same : {P : Type 0} (a b : ℕ) → (a ≡ b → P) → ((a ≡ b → ⊥) → P) → P
@@ -304,12 +305,12 @@ open-kept t q m u e =
     let rule : Bool = ltb (m .0) 16384 && leb (u .0) (m .0 * 1000) in
     let a = passed (small t && (small q && (small (m .0) && small (u .0)))) 0 (pick rule 0 4) 5 (not-zero 4) e in
     let b = passed rule 0 0 4 (not-zero 3) (a .1) in
-    let f = right (small t) (small q && (small (m .0) && small (u .0))) (a .0) in
+    let f = both-right (small t) (small q && (small (m .0) && small (u .0))) (a .0) in
     opened-kept t q m u
-    (leb-true t limit (left (small t) (small q && (small (m .0) && small (u .0))) (a .0)))
-    (leb-true q limit (left (small q) (small (m .0) && small (u .0)) f))
-    (ltb-true (m .0) 16384 (left (ltb (m .0) 16384) (leb (u .0) (m .0 * 1000)) (b .0)))
-    (leb-true (u .0) (m .0 * 1000) (right (ltb (m .0) 16384) (leb (u .0) (m .0 * 1000)) (b .0)))
+    (leb-true t limit (both-left (small t) (small q && (small (m .0) && small (u .0))) (a .0)))
+    (leb-true q limit (both-left (small q) (small (m .0) && small (u .0)) f))
+    (ltb-true (m .0) 16384 (both-left (ltb (m .0) 16384) (leb (u .0) (m .0 * 1000)) (b .0)))
+    (leb-true (u .0) (m .0 * 1000) (both-right (ltb (m .0) 16384) (leb (u .0) (m .0 * 1000)) (b .0)))
 
 usual-kept : Consistent usual
 usual-kept = opened-kept 1 1 (record { 0 = 25 }) (record { 0 = 1000 }) (omega arith) (omega arith) (omega arith) (omega arith)

@@ -11,12 +11,13 @@ use Rattle.receiver.specs.Calls.{opened, openRefusal, openCall, immediateRefusa
 use Rattle.receiver.specs.Write.{rangesBelow, frame, writeRefusal, written}
 use Rattle.promises.specs.Sequence.{step, inOrder, after}
 use Rattle.promises.specs.Passed.{count, among, endOf, passed, passedOver}
-use Rattle.promises.specs.Counted.{acceptedCalls, numbers, T, unmarked, counted}
+use Rattle.promises.specs.Accepted.{acceptedOf}
+use Rattle.promises.specs.Counted.{lastFirst, numbers, T, unmarked, counted}
 use Rattle.promises.specs.Bound.{onlyDue}
 use Rattle.promises.specs.Reached.{eachWritten, Reached}
 
 pub reached : Reached
-unfolding firstFrom form encode encodeAll gapsFrom ackNumbers numberOf wordsOf bit firstClear runBelow limitsRule delayRule seenConsistent pendingConsistent agreedConsistent consistent numberRefusal packetRefusal seenAfter pendingAfter firstMissing outOfOrder gapReached order congestion firstCause causeAfter packetAfter packetCall opened openRefusal openCall immediateRefusal immediateCall timerDue timerRefusal timerCall agreedAfter thresholdVerdict thresholdCall rangesBelow frame writeRefusal written step inOrder after count among endOf passed passedOver acceptedCalls numbers T unmarked counted onlyDue eachWritten
+unfolding firstFrom form encode encodeAll gapsFrom ackNumbers numberOf wordsOf bit firstClear runBelow limitsRule delayRule seenConsistent pendingConsistent agreedConsistent consistent numberRefusal packetRefusal seenAfter pendingAfter firstMissing outOfOrder gapReached order congestion firstCause causeAfter packetAfter packetCall opened openRefusal openCall immediateRefusal immediateCall timerDue timerRefusal timerCall agreedAfter thresholdVerdict thresholdCall rangesBelow frame writeRefusal written step inOrder after count among endOf passed passedOver acceptedOf lastFirst numbers T unmarked counted onlyDue eachWritten
 reached =
     record {
       manyWrites = record { due = refl; written = refl; most = refl };

@@ -19,6 +19,7 @@ use Rattle.receiver.specs.Packet.{numberRefusal, packetRefusal, packetAfter, pa
 use Rattle.receiver.specs.Calls.{timerRefusal, timerAfter, timerCall, immediateRefusal, immediateAfter, immediateCall, agreedAfter, thresholdVerdict, thresholdCall, heard}
 use Rattle.receiver.specs.Write.{writeRefusal, written, answered, fits, ackDelay}
 use Rattle.receiver.proofs.Exactly.{unchanged}
+use Rattle.promises.proofs.Truth.{both-left, both-right}
 use Rattle.promises.specs.Sequence.{Call, packet, timer, immediate, threshold, write, accepted, refused, replyOf, replyTo, step}
 
 -- what an accepted call leaves
@@ -52,14 +53,6 @@ Meets r (threshold sequence t delay q) = FrameMeets r sequence t delay q
 Meets r (write time room) = 0 < r .seen .end
 
 -- ---- tests taken apart
-
-pub left : (a b : Bool) → (a && b) ≡ true → a ≡ true
-left true b e = refl
-left false b e = e
-
-pub right : (a b : Bool) → (a && b) ≡ true → b ≡ true
-right true b e = e
-right false b e = let z : _≡_ {A = ℕ} 0 1 = cc in absurd (omega arith)
 
 -- a test that must hold before the rest is looked at; only the rest can give x
 pub passed : {A : Type 0} (b : Bool) (x y k : A) → (k ≡ x → ⊥) → pick b y k ≡ x → (b ≡ true) × (y ≡ x)
@@ -149,8 +142,8 @@ unfolding packetRefusal
 packet-meets r n time e =
     let a = passed (consistent r) 0 (pick (small n && small (time .0)) (numberRefusal (r .seen) n) 5) 1 (not-zero 0) e in
     let b = passed (small n && small (time .0)) 0 (numberRefusal (r .seen) n) 5 (not-zero 4) (a .1) in record {
-      number = leb-true n limit (left (small n) (small (time .0)) (b .0));
-      time = leb-true (time .0) limit (right (small n) (small (time .0)) (b .0));
+      number = leb-true n limit (both-left (small n) (small (time .0)) (b .0));
+      time = leb-true (time .0) limit (both-right (small n) (small (time .0)) (b .0));
       window = number-meets (r .seen) n (b .1) .0;
       fresh = number-meets (r .seen) n (b .1) .1;
     }
@@ -178,13 +171,13 @@ frame-meets r s t d q e =
     let b = passed numbers Accepted (pick rule (pick old Stale Accepted) (Refused 4)) (Refused 5) (other 5) (a .1) in
     let x = passed rule Accepted (pick old Stale Accepted) (Refused 4) (other 4) (b .1) in
     let y = skipped old Accepted Accepted Stale not-stale (x .1) in
-    let f = right (small s) (small t && (small (d .0) && small q)) (b .0) in
-    let g = right (small t) (small (d .0) && small q) f in record {
-      sequence = leb-true s limit (left (small s) (small t && (small (d .0) && small q)) (b .0));
-      threshold = leb-true t limit (left (small t) (small (d .0) && small q) f);
-      reordering = leb-true q limit (right (small (d .0)) (small q) g);
-      delay = ltb-true (d .0) 16384000 (left (ltb (d .0) 16384000) (leb (r .limits .minimum .0) (d .0)) (x .0));
-      least = leb-true (r .limits .minimum .0) (d .0) (right (ltb (d .0) 16384000) (leb (r .limits .minimum .0) (d .0)) (x .0));
+    let f = both-right (small s) (small t && (small (d .0) && small q)) (b .0) in
+    let g = both-right (small t) (small (d .0) && small q) f in record {
+      sequence = leb-true s limit (both-left (small s) (small t && (small (d .0) && small q)) (b .0));
+      threshold = leb-true t limit (both-left (small t) (small (d .0) && small q) f);
+      reordering = leb-true q limit (both-right (small (d .0)) (small q) g);
+      delay = ltb-true (d .0) 16384000 (both-left (ltb (d .0) 16384000) (leb (r .limits .minimum .0) (d .0)) (x .0));
+      least = leb-true (r .limits .minimum .0) (d .0) (both-right (ltb (d .0) 16384000) (leb (r .limits .minimum .0) (d .0)) (x .0));
       newer = ltb-false s (r .agreed .sequence) (y .0);
     }
 

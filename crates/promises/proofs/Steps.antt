@@ -3,23 +3,18 @@
 use Prim.Native.Nat.{ℕ, zero, suc}
 use mathlib.Core.Path.{_≡_, refl}
 use mathlib.Core.Bool.{Bool, true, false}
-use mathlib.Core.List.{[]}
+use mathlib.Core.List.{[], _∷_}
+use Rattle.wire.specs.Bytes.{pick}
 use Rattle.receiver.specs.declared.Receiver.{Receiver}
 use Rattle.receiver.specs.declared.Verdict.{Verdict}
 use Rattle.receiver.specs.declared.Verdict.the-variants.{Accepted, Stale, Refused}
 use Rattle.receiver.specs.Packet.{packetRefusal, packetAfter, packetCall, judged}
 use Rattle.receiver.specs.Calls.{immediateRefusal, immediateAfter, immediateCall, timerRefusal, timerAfter, timerCall, agreedAfter, thresholdVerdict, heard, thresholdCall}
 use Rattle.receiver.specs.Write.{writeRefusal, written, answered}
-use Rattle.promises.specs.Sequence.{Call, packet, timer, immediate, threshold, write, replyOf, replyTo, step}
-use Rattle.promises.specs.Counted.{isAccepted}
-
--- the record that an accepted call leaves
-abbrev pub left : Receiver → Call → Receiver
-left r (packet n time eliciting marked) = packetAfter r n time eliciting marked
-left r (timer time) = timerAfter r time
-left r immediate = immediateAfter r
-left r (threshold sequence t delay q) = agreedAfter r sequence t delay q
-left r (write time room) = written r
+use Rattle.promises.specs.Sequence.{Call, packet, timer, immediate, threshold, write, Calls, Reply, accepted, stale, refused, replyOf, replyTo, step}
+use Rattle.promises.specs.Accepted.{joined}
+use Rattle.promises.specs.Counted.{isAccepted, lastFirst}
+use Rattle.promises.proofs.Step.{made}
 
 -- the refusal number of a call; a threshold frame's verdict is none
 abbrev pub refusal : Receiver → Call → ℕ
@@ -44,10 +39,17 @@ module _ (P : Bool → Receiver → Type 0) (r : Receiver) (same : P false r) wh
   answered-step (suc k) f = same
 
   -- what holds of the record as it came, and of the one that an accepted call leaves, holds after the call
-  pub by-step : (c : Call) → (refusal r c ≡ 0 → P true (left r c)) → P (isAccepted (step r c .reply)) (step r c .next)
+  pub by-step : (c : Call) → (refusal r c ≡ 0 → P true (made r c)) → P (isAccepted (step r c .reply)) (step r c .next)
   unfolding step packetCall timerCall immediateCall thresholdCall
   by-step (packet n time eliciting marked) f = judged-step (packetRefusal r n time) (packetAfter r n time eliciting marked) f
   by-step (timer time) f = judged-step (timerRefusal r time) (timerAfter r time) f
   by-step immediate f = judged-step (immediateRefusal r) (immediateAfter r) f
   by-step (threshold sequence t delay q) f = heard-step (thresholdVerdict r sequence t delay q) (agreedAfter r sequence t delay q) (f refl)
   by-step (write time room) f = answered-step (writeRefusal r time room) f
+
+-- a call stands among the accepted ones where its reply says so
+pub accepted-next : (reply : Reply) (cs : Calls) (c : Call) → lastFirst (joined reply cs c) ≡ pick (isAccepted reply) (c ∷ lastFirst cs) (lastFirst cs)
+unfolding lastFirst
+accepted-next accepted cs c = refl
+accepted-next stale cs c = refl
+accepted-next (refused k) cs c = refl

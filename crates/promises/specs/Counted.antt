@@ -8,7 +8,8 @@ use Rattle.receiver.specs.declared.Millis.{Millis}
 use Rattle.receiver.specs.declared.Micros.{Micros}
 use Rattle.receiver.specs.declared.Receiver.{Receiver}
 use Rattle.receiver.specs.Calls.{openCall}
-use Rattle.promises.specs.Sequence.{Call, packet, timer, immediate, threshold, write, Reply, accepted, stale, refused, Calls, none, _then_, replied}
+use Rattle.promises.specs.Sequence.{Call, packet, timer, immediate, threshold, write, Reply, accepted, stale, refused, Calls, none, _then_}
+use Rattle.promises.specs.Accepted.{acceptedOf}
 use Rattle.promises.specs.Passed.{oneIf, passedOver}
 
 -- a stale frame is not accepted
@@ -17,10 +18,14 @@ isAccepted accepted = true
 isAccepted stale = false
 isAccepted (refused k) = false
 
+-- calls, the last first
+unfoldable pub lastFirst : Calls → List Call
+lastFirst none = []
+lastFirst (cs then c) = c ∷ lastFirst cs
+
 -- "A refused call counts nowhere", nor does a stale one
-unfoldable pub acceptedCalls : Receiver → Calls → List Call
-acceptedCalls r none = []
-acceptedCalls r (cs then c) = pick (isAccepted (replied r cs c)) (c ∷ acceptedCalls r cs) (acceptedCalls r cs)
+abbrev pub acceptedCalls : Receiver → Calls → List Call
+acceptedCalls r cs = lastFirst (acceptedOf r cs)
 
 -- the numbers of the packets
 unfoldable pub numbers : List Call → List ℕ
