@@ -6,20 +6,14 @@ use contract.Lifetimes.{Lfts}
 use denote.Ref.{now}
 use denote.Triple.Clauses.{AtExit}
 use Rattle.wire.proofs.Only.{OneAnswer, OneBuffer}
-use Rattle.report.proofs.read_report.Reads as read-report
-use Rattle.report.proofs.read_report.Kinds as read-report-kinds
-use Rattle.report.proofs.entries_of.Reads as entries-of
-use Rattle.report.proofs.entries_of.Kinds as entries-of-kinds
-use Rattle.report.proofs.read_entry.Reads as read-entry
-use Rattle.report.proofs.read_entry.Kinds as read-entry-kinds
-use Rattle.report.proofs.write_report.Reads as write-report
-use Rattle.report.proofs.write_report.Kinds as write-report-kinds
-use Rattle.report.proofs.stored.Reads as stored
-use Rattle.report.proofs.stored.Kinds as stored-kinds
-use Rattle.report.proofs.average.Reads as average
-use Rattle.report.proofs.average.Kinds as average-kinds
-use Rattle.report.proofs.empty_header.Reads as empty-header
-use Rattle.report.proofs.empty_header.Kinds as empty-header-kinds
+use Rattle.report.proofs.reader.read_report.Reads as read-report
+use Rattle.report.proofs.reader.read_report.Kinds as read-report-kinds
+use Rattle.report.proofs.reader.entries_of.Reads as entries-of
+use Rattle.report.proofs.reader.entries_of.Kinds as entries-of-kinds
+use Rattle.report.proofs.entries.read_entry.Reads as read-entry
+use Rattle.report.proofs.entries.read_entry.Kinds as read-entry-kinds
+use Rattle.report.proofs.writer.write_report.Reads as write-report
+use Rattle.report.proofs.writer.write_report.Kinds as write-report-kinds
 use Rattle.report.proofs.Entry.refusal.Reads as entry-refusal
 use Rattle.report.proofs.Entry.refusal.Kinds as entry-refusal-kinds
 use Rattle.report.proofs.Written.refusal.Reads as written-refusal
@@ -38,15 +32,6 @@ read-entry-one κs given x y s t p q = p ∙ sym q
 
 pub write-report-one : OneBuffer 2 write-report-kinds.ps write-report-kinds.r (λ κs s. now (s .0)) write-report.Post
 write-report-one κs given x y s t p q = (p .0 ∙ sym (q .0), p .1 ∙ sym (q .1))
-
-pub stored-one : OneAnswer 0 stored-kinds.ps stored-kinds.r stored.Post
-stored-one κs given x y s t p q = p ∙ sym q
-
-pub average-one : OneAnswer 0 average-kinds.ps average-kinds.r average.Post
-average-one κs given x y s t p q = p ∙ sym q
-
-pub empty-header-one : OneAnswer 0 empty-header-kinds.ps empty-header-kinds.r empty-header.Post
-empty-header-one κs given x y s t p q = p ∙ sym q
 
 pub entry-refusal-one : OneAnswer 0 entry-refusal-kinds.ps entry-refusal-kinds.r entry-refusal.Post
 entry-refusal-one κs given x y s t p q = p ∙ sym q

@@ -1,0 +1,97 @@
+-- `report::plan` meets its contract: each branch is one judgement of the definition, in the paper's order.
+-- Assumes nothing.
+use mathlib.Core.Path.{sym, _∙_}
+use Prim.Native.Nat.{_-_}
+use native.Mathlib.Omega.{arith}
+use denote.Ref.{now}
+use Rattle.wire.proofs.Writing.{length-large, length-bytes}
+use Rattle.report.proofs.Planning.{plan-large, plan-fault, plan-broken, plan-room, plan-done, plan-fits}
+use borrow.Author.Needs.{needs}
+use Rattle.report.proofs.writer.plan.Statement.{statement}
+use Rattle.report.proofs.writer.plan.Tie as tie
+
+length-of-requires : tie.Need-length-of-requires
+length-of-requires c κs = search needs
+
+enum-known-head : tie.Need-enum-known-head
+enum-known-head c = search needs
+
+enum-told : tie.Need-enum-told
+enum-told c = search needs
+
+returns : tie.Need-returns
+returns c = let a = c .before .before .before .before .before .args in plan-large (now (a .numbers)) (now (a .entries)) (a .room) (length-large (now (a .numbers)) (sym (c .enum-told .given .1) ∙ c .before .before .length-of .ensures))
+
+first-fault-requires : tie.Need-first-fault-requires
+first-fault-requires c κs = search needs
+
+returns-2 : tie.Need-returns-2
+returns-2 c =
+    let a = c .before .before .before .before .before .before .before .before .args in
+    let b = length-bytes (now (a .numbers)) _ (sym (c .before .before .before .head .given .1) ∙ c .before .before .before .before .before .length-of .ensures) in
+    plan-fault (now (a .numbers)) (now (a .entries)) (a .room) (b .0) _ (c .before .first-fault .ensures) (c .if1 .taken)
+
+entries-fault-requires : tie.Need-entries-fault-requires
+entries-fault-requires c κs = search needs
+
+returns-3 : tie.Need-returns-3
+returns-3 c =
+    let a = c .before .before .before .before .before .before .before .before .before .before .args in
+    let b = length-bytes (now (a .numbers)) _ (sym (c .before .before .before .before .before .head .given .1) ∙ c .before .before .before .before .before .before .before .length-of .ensures) in
+    let z = sym (c .before .before .before .first-fault .ensures) ∙ c .before .before .if1 .left in
+    plan-broken (now (a .numbers)) (now (a .entries)) (a .room) (b .0) z _ (c .before .entries-fault .ensures) (c .if2 .taken)
+
+returns-4 : tie.Need-returns-4
+returns-4 c =
+    let a = c .before .before .before .before .before .before .before .before .before .before .before .args in
+    let b = length-bytes (now (a .numbers)) _ (sym (c .before .before .before .before .before .before .head .given .1) ∙ c .before .before .before .before .before .before .before .before .length-of .ensures) in
+    let z = sym (c .before .before .before .before .first-fault .ensures) ∙ c .before .before .before .if1 .left in
+    let y = sym (c .before .before .entries-fault .ensures) ∙ c .before .if2 .left in
+    plan-room (now (a .numbers)) (now (a .entries)) (a .room) (b .0) z y (omega (arith, b .1, c .if3 .taken))
+
+at-most-requires : tie.Need-at-most-requires
+at-most-requires c κs = search needs
+
+kept-requires : tie.Need-kept-requires
+kept-requires c κs = search needs
+
+width-requires : tie.Need-width-requires
+width-requires c κs = search needs
+
+add-t12 : tie.Need-add-t12
+add-t12 c = let f = plan-fits _ _ _ _ _ (c .before .before .before .if3 .left) (c .before .kept .ensures) (c .width .ensures) in omega (arith, f, c .before .before .before .before .before .before .before .before .before .before .before .before .before .before .fits .room)
+
+mul-t14 : tie.Need-mul-t14
+mul-t14 c = let f = plan-fits _ _ _ _ _ (c .before .before .before .if3 .left) (c .before .kept .ensures) (c .width .ensures) in omega (arith, f, c .before .before .before .before .before .before .before .before .before .before .before .before .before .before .fits .room)
+
+add-t15 : tie.Need-add-t15
+add-t15 c = let f = plan-fits _ _ _ _ _ (c .before .before .before .if3 .left) (c .before .kept .ensures) (c .width .ensures) in omega (arith, f, c .before .before .before .before .before .before .before .before .before .before .before .before .before .before .fits .room)
+
+returns-5 : tie.Need-returns-5
+returns-5 c =
+    let a = c .before .before .before .before .before .before .before .before .before .before .before .before .before .before .args in
+    let b = length-bytes (now (a .numbers)) _ (sym (c .before .before .before .before .before .before .before .before .before .head .given .1) ∙ c .before .before .before .before .before .before .before .before .before .before .before .length-of .ensures) in
+    let z = sym (c .before .before .before .before .before .before .before .first-fault .ensures) ∙ c .before .before .before .before .before .before .if1 .left in
+    let y = sym (c .before .before .before .before .before .entries-fault .ensures) ∙ c .before .before .before .before .if2 .left in
+    plan-done (now (a .numbers)) (now (a .entries)) (a .room) (b .0) z y _ _ _ _ (b .1) (c .before .before .before .if3 .left) (c .before .before .at-most .ensures) (c .before .kept .ensures) (c .width .ensures)
+
+pub plan-spec : {M : Type 1} → statement M
+plan-spec =
+    tie.close
+    (tie.spec
+    length-of-requires
+    enum-known-head
+    enum-told
+    returns
+    first-fault-requires
+    returns-2
+    entries-fault-requires
+    returns-3
+    returns-4
+    at-most-requires
+    kept-requires
+    width-requires
+    add-t12
+    mul-t14
+    add-t15
+    returns-5)

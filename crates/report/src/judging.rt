@@ -1,0 +1,142 @@
+// What each number of a header brings: the step that reader and writer both go by.
+ghost use mathlib.Core.Path.{_≡_};
+ghost use Prim.Native.Nat.{_+_, _≤_, min};
+ghost use lib.Dec.{eqb};
+ghost use lib.ListN.{length, getD};
+ghost use Rattle.report.specs.Limits.{fixedNumbers, mostMetrics};
+ghost use Rattle.report.specs.Header.{knownType, judge, judgeLater, firstFault, wantedOf, countOf};
+use crate::FIXED;
+use crate::MOST_ENTRIES;
+use crate::MOST_METRICS;
+
+// "types .. from 0x02, 0x04, 0x10, 0x12"
+fn known_type(kind: u64) -> bool
+    ensures { λ r. ⌜ r ≡ knownType kind ⌝ }
+{
+    match kind {
+        0x02 | 0x04 | 0x10 | 0x12 => true,
+        _ => false,
+    }
+}
+
+// Whether total is the sum of the three parts, with no sum that could wrap.
+fn adds_up(total: u64, received: u64, late: u64, lost: u64) -> bool
+    ensures { λ r. ⌜ r ≡ eqb total (received + late + lost) ⌝ }
+{
+    if total < received {
+        return false;
+    }
+    let rest = total - received;
+    if rest < late {
+        return false;
+    }
+    rest - late == lost
+}
+
+// The refusal that v brings where it comes after the numbers so far, 0 for none: one step of the reader and of the writer.
+pub(crate) fn judge_next(numbers: &[u64], v: u64) -> u64
+    ensures { λ r. ⌜ r ≡ judge (now (numbers .entry)) v ⌝ }
+{
+    let n = numbers.len();
+    if n == 5 {
+        if adds_up(numbers[2], numbers[3], numbers[4], v) {
+            return 0;
+        }
+        return 11;
+    }
+    if n == 7 {
+        if v <= MOST_METRICS as u64 {
+            return 0;
+        }
+        return 10;
+    }
+    if n < FIXED {
+        return 0;
+    }
+    if n % 2 == 1 {
+        return 0;
+    }
+    judge_later(numbers, v)
+}
+
+// The same from the ninth number on, where a type or the entry count comes.
+fn judge_later(numbers: &[u64], v: u64) -> u64
+    requires { ⌜ fixedNumbers ≤ length (now numbers) ⌝ }
+    ensures { λ r. ⌜ r ≡ judgeLater (now (numbers .entry)) v ⌝ }
+{
+    let n = numbers.len();
+    let metric = ((n - FIXED) / 2) as u64;
+    let metrics = numbers[7];
+    if metric == metrics {
+        if v <= MOST_ENTRIES as u64 {
+            return 0;
+        }
+        return 10;
+    }
+    if !known_type(v) {
+        return 10;
+    }
+    if n == FIXED {
+        return 0;
+    }
+    if numbers[n - 2] < v { 0 } else { 10 }
+}
+
+// The smaller of the two.
+pub(crate) fn at_most(n: usize, limit: usize) -> usize
+    ensures { λ r. ⌜ r ≡ min n limit ⌝ }
+{
+    if n <= limit { n } else { limit }
+}
+
+// How many metrics are looked at: those of the count, up to the limit.
+pub(crate) fn looked_at(metrics: u64) -> usize
+    ensures { λ r. ⌜ r ≡ min metrics mostMetrics ⌝ }
+{
+    if metrics <= MOST_METRICS as u64 {
+        metrics as usize
+    } else {
+        MOST_METRICS
+    }
+}
+
+// The number at i, 0 past the last.
+pub(crate) fn number_at(numbers: &[u64], i: usize) -> u64
+    ensures { λ r. ⌜ r ≡ getD (now (numbers .entry)) i 0 ⌝ }
+{
+    if i < numbers.len() { numbers[i] } else { 0 }
+}
+
+// How many numbers the header has, as far as the numbers so far tell.
+pub(crate) fn wanted(numbers: &[u64]) -> usize
+    ensures { λ r. ⌜ r ≡ wantedOf (now (numbers .entry)) ⌝ }
+{
+    let metrics = number_at(numbers, 7);
+    FIXED + 2 * looked_at(metrics) + 1
+}
+
+// The entry count, the last of the numbers.
+pub(crate) fn last_of(numbers: &[u64]) -> u64
+    ensures { λ r. ⌜ r ≡ countOf (now (numbers .entry)) ⌝ }
+{
+    let n = numbers.len();
+    if n == 0 {
+        return 0;
+    }
+    numbers[n - 1]
+}
+
+// The first refusal that the numbers bring, each judged after those before it; 0 for none.
+pub(crate) fn first_fault(numbers: &[u64]) -> u64
+    ensures { λ r. ⌜ r ≡ firstFault (now (numbers .entry)) ⌝ }
+{
+    let mut i: usize = 0;
+    while i < numbers.len() {
+        let refusal = judge_next(&numbers[..i], numbers[i]);
+        if refusal != 0 {
+            return refusal;
+        }
+        i += 1;
+    }
+    0
+}

@@ -1,0 +1,120 @@
+// The whole reader and its companion, which hands back the entries' own bytes.
+ghost use mathlib.Core.Path.{_≡_};
+ghost use Prim.Native.Nat.{_≤_};
+ghost use lib.ListN.{length};
+ghost use Rattle.report.specs.Limits.{mostNumbers};
+ghost use Rattle.report.specs.Reader.{foundOf, readNumbers, judged, readReport, entriesOf};
+use crate::Found;
+use crate::MOST_NUMBERS;
+use crate::RECORD;
+use crate::Report;
+use crate::entries::entries_good;
+use crate::headers::empty_header;
+use crate::headers::header_of;
+use crate::judging::judge_next;
+use crate::judging::last_of;
+use crate::judging::wanted;
+use wire::Number;
+
+// Reads the header's numbers one by one; each is judged as soon as it is read.
+fn read_numbers(s: &[u8]) -> Found
+    ensures { λ r. ⌜ (foundOf r ≡ readNumbers (now (s .entry))) × ((r .next ≤ length (now (s .entry))) × (r .count ≤ mostNumbers)) ⌝ }
+{
+    let mut numbers = [0u64; MOST_NUMBERS];
+    let mut at: usize = 0;
+    let mut count: usize = 0;
+    while count < MOST_NUMBERS {
+        let whole = wanted(&numbers[..count]);
+        if whole <= count {
+            return Found {
+                refusal: 0,
+                next: at,
+                count,
+                numbers,
+            };
+        }
+        let Number::Value { value, next } = wire::read_number(s, at) else {
+            return stopped(2);
+        };
+        let refusal = judge_next(&numbers[..count], value);
+        if refusal != 0 {
+            return stopped(refusal);
+        }
+        numbers[count] = value;
+        at = next;
+        count += 1;
+    }
+    Found {
+        refusal: 0,
+        next: at,
+        count,
+        numbers,
+    }
+}
+
+// No numbers, and why.
+fn stopped(refusal: u64) -> Found
+    ensures { λ r. ⌜ (r .refusal ≡ refusal) × ((r .next ≡ 0) × (r .count ≡ 0)) ⌝ }
+{
+    let numbers = [0u64; MOST_NUMBERS];
+    Found {
+        refusal,
+        next: 0,
+        count: 0,
+        numbers,
+    }
+}
+
+// Judges a whole report: its numbers, then whether its entries are there (2), good (12) and its end (13).
+fn judge_report(s: &[u8]) -> Found
+    ensures { λ r. ⌜ (foundOf r ≡ judged (now (s .entry))) × ((r .next ≤ length (now (s .entry))) × (r .count ≤ mostNumbers)) ⌝ }
+{
+    let found = read_numbers(s);
+    if found.refusal != 0 {
+        return found;
+    }
+    let at = found.next;
+    let count = found.count;
+    let numbers = found.numbers;
+    let entries = last_of(&numbers[..count]) as usize;
+    let rest = s.len() - at;
+    if rest / RECORD < entries {
+        return stopped(2);
+    }
+    let end = at + RECORD * entries;
+    if !entries_good(&s[at..end]) {
+        return stopped(12);
+    }
+    if end < s.len() {
+        return stopped(13);
+    }
+    found
+}
+
+// Reads a whole report: 0 and its header, or the first fault and the empty header.
+pub fn read_report(s: &[u8]) -> Report
+    ensures { λ r. ⌜ r ≡ readReport (now (s .entry)) ⌝ }
+{
+    let found = judge_report(s);
+    let refusal = found.refusal;
+    if refusal != 0 {
+        let header = empty_header();
+        return Report { refusal, header };
+    }
+    let count = found.count;
+    let numbers = found.numbers;
+    let header = header_of(&numbers[..count]);
+    Report { refusal, header }
+}
+
+// The entries of a report, a part of the caller's own bytes; empty on a refusal.
+pub fn entries_of(s: &[u8]) -> &[u8]
+    ensures { λ r. ⌜ now r ≡ entriesOf (now (s .entry)) ⌝ }
+{
+    let found = judge_report(s);
+    if found.refusal != 0 {
+        return &s[0..0];
+    }
+    let at = found.next;
+    &s[at..]
+}
