@@ -10,12 +10,12 @@ use mathlib.Core.Logic.{⊎-elim}
 use borrow.Author.Tests.{le-leb, lt-leb}
 use lib.ListN.{length, take, length-append, length-take}
 use Rattle.wire.specs.Numbers.{limit, codeOf, widthOf, firstFrom, encodeAll}
-use Rattle.wire.proofs.Lengths.{split, small-code, code-fits, width-found, width-least, width-pos}
+use Rattle.wire.proofs.Lengths.{split, small-code, code-fits, width-found, width-least, width-le, width-pos}
 use Rattle.wire.proofs.Writing.{length-encode}
 use Rattle.frames.specs.Ack.{ackNumbers}
 use Rattle.receiver.specs.declared.Seen.{Seen}
 use Rattle.receiver.specs.Write.{numberAt, ranges, numberOfRanges, frame, fits, largestWhere, kept}
-use Rattle.receiver.proofs.Ranges.{Begun, Bottom, bottom, missing, top, size, low, missing-le, missing-pos, size-le, size-pos, size-none, run-length, first-top, down, down-none, down-some, few-ranges, fields, fields-zero, fields-some}
+use Rattle.receiver.proofs.Ranges.{Begun, Bottom, bottom, sizes, missing, top, size, low, missing-le, size-le, size-pos, size-none, run-length, first-top, down, down-none, down-some, few-ranges, fields, fields-zero, fields-some}
 
 -- ---- bytes
 
@@ -23,6 +23,9 @@ pub width-grows : (u v : ℕ) → u ≤ v → v ≤ limit → widthOf u ≤ widt
 width-grows u v l h =
     let c = small-code v h in
     rw (width-found v c) (width-least u (codeOf v) c (omega (arith, code-fits v c)))
+
+pub narrow : (v : ℕ) {w : ℕ} → w ≡ widthOf v → w ≤ 8
+narrow v e = omega (arith, width-le v)
 
 pub bytes-next : (v : ℕ) (vs : List ℕ) → v ≤ limit → length (encodeAll (v ∷ vs)) ≡ widthOf v + length (encodeAll vs)
 unfolding encodeAll
@@ -84,16 +87,11 @@ module _ {s : Seen} (b : Begun s) (delay : ℕ) (d : delay ≤ limit) where
   frame-length k h =
       let l = first-size b in
       let f = few-ranges s in
-      rw (
-        frame-numbers b delay k h,
-        bytes-next 2 _ (omega arith),
-        bytes-next (s .end - 1) _ (omega (arith, b .small)),
-        bytes-next delay _ d,
-        bytes-next k _ (omega arith),
-        bytes-next (size s 1024 - 1) _ (omega arith),
-        type-byte,
-      )
-      (omega arith)
+      let us : List ℕ = fields s k (low s 1024) in
+      let n : length (encodeAll (2 ∷ (s .end - 1) ∷ delay ∷ k ∷ (size s 1024 - 1) ∷ us)) ≡ widthOf k + (base s delay + bytesBelow s k (low s 1024)) =
+      rw (bytes-next 2 _ (omega arith), bytes-next (s .end - 1) _ (omega (arith, b .small)), bytes-next delay _ d, bytes-next k _ (omega arith), bytes-next (size s 1024 - 1) us (omega arith), type-byte)
+      (omega arith) in
+      ap (λ (vs : List ℕ). length (encodeAll vs)) (frame-numbers b delay k h) ∙ n
 
   -- a range more
   pub bytes-more : (n p : ℕ) → Bottom s p → 0 < top s p
@@ -114,10 +112,12 @@ module _ {s : Seen} (b : Begun s) (delay : ℕ) (d : delay ≤ limit) where
 
 -- ---- the largest that fits
 
+-- a test holds or does not
 pub by-test : {P : Type 0} (b : Bool) → (b ≡ true → P) → (b ≡ false → P) → P
 by-test true f g = f refl
 by-test false f g = g refl
 
+-- what holds, where nothing above it does, is the largest
 pub largest-is : (test : ℕ → Bool) (n all : ℕ) → n ≤ all → (0 < n → test n ≡ true) → ((j : ℕ) → n < j → j ≤ all → test j ≡ false) → n ≡ largestWhere test all
 unfolding largestWhere
 largest-is test n zero l y f = omega arith
@@ -129,6 +129,7 @@ largest-is test n (suc all) l y f =
     rw (largestWhere, t) (largest-is test n all (omega arith) y (λ j i k. f j i (omega arith))))
     (eq-or-lt-of-le l)
 
+-- and the largest says so
 pub record Largest (test : ℕ → Bool) (n all : ℕ) : Type 0 where
   pub holds : 0 < n → test n ≡ true
   pub within : n ≤ all
@@ -261,10 +262,7 @@ module _ {s : Seen} (b : Begun s) {delay room : ℕ} (d : delay ≤ limit) {p by
     some-more = split (top s p) 0 (λ h. absurd (n (omega (arith, size-le s p)))) (λ h. h)
 
     pub step-sizes : (0 < m) × (0 < z) × (m + z ≤ p)
-    step-sizes =
-        let h = some-more in
-        let l = size-le s p in
-        (omega (arith, missing-pos (c .at) (omega arith)), omega (arith, size-pos s p h), omega arith)
+    step-sizes = rw (e, f) (sizes (c .at) some-more)
 
     module _ {w₁ w₂ w₃ : ℕ} (e₁ : w₁ ≡ widthOf (m - 1)) (e₂ : w₂ ≡ widthOf (z - 1)) (e₃ : w₃ ≡ widthOf count) where
       gap-bytes : w₁ ≡ widthOf (missing s p - 1)

@@ -70,7 +70,7 @@ run-pos b p w h e =
     let n : p ≡ suc (p - 1) = omega arith in
     omega (arith, ap (λ (m : ℕ). runBelow b m w) n, run-on b (p - 1) w e)
 
--- the step is over where nothing is left
+-- how far a step goes; where it takes nothing, nothing is left
 pub missing-le : (s : Seen) (p : ℕ) → missing s p ≤ p
 missing-le s p = run-le false p (valueOf (s .window))
 
@@ -110,6 +110,10 @@ bottom {s} b p l h =
 
 pub missing-pos : {s : Seen} {p : ℕ} → Bottom s p → 0 < p → 0 < missing s p
 missing-pos {s} {p} b h = run-pos false p (valueOf (s .window)) h (not-true-false (isSet (valueOf (s .window)) (p - 1)) (b .clear h))
+
+-- what a step from the lower end of a range passes and takes
+pub sizes : {s : Seen} {p : ℕ} → Bottom s p → 0 < top s p → (0 < missing s p) × (0 < size s p) × (missing s p + size s p ≤ p)
+sizes {s} {p} b h = (missing-pos b (omega arith), size-pos s p h, omega (arith, size-le s p))
 
 -- the places that a step passes
 pub top-sum : (s : Seen) (p : ℕ) → 0 < top s p → p ≡ suc (top s p - 1) + missing s p

@@ -17,7 +17,7 @@ use Rattle.wire.proofs.Lengths.{split}
 use Rattle.wire.proofs.Writing.{placed-yes, put-small}
 use Rattle.receiver.specs.declared.Seen.{Seen}
 use Rattle.receiver.specs.Write.{ranges, numberOfRanges, frame}
-use Rattle.receiver.proofs.Ranges.{Begun, Bottom, bottom, missing, top, size, low, missing-pos, size-le, size-pos, down, down-none, down-some, few-ranges, fields, fields-zero, fields-some}
+use Rattle.receiver.proofs.Ranges.{Begun, Bottom, bottom, sizes, missing, top, size, low, down, down-none, down-some, few-ranges, fields, fields-zero, fields-some}
 use Rattle.receiver.proofs.Fitting.{first-low, first-bottom, first-size, first-rest, frame-numbers, bytesBelow}
 
 -- ---- numbers vs put at a place, and the numbers us that are still to come
@@ -88,8 +88,9 @@ module _ {s : Seen} (b : Begun s) {delay count : ℕ} (d : delay ≤ limit) (c :
   head-room : 0 + length (encodeAll (head s delay count z ++ fields s (count - 1) (low s 1024))) ≤ length xs
   head-room = omega (arith, ap length whole-frame)
 
-  pub first-never : {r : Put} → r ≡ putAnswer xs 0 (head s delay count z) → r ≡ Done (0 + length (encodeAll (head s delay count z)))
-  first-never f = f ∙ put-done xs 0 (head s delay count z) (fields s (count - 1) (low s 1024)) head-small head-room
+  -- the first put is done
+  pub first-done : {r : Put} → r ≡ putAnswer xs 0 (head s delay count z) → r ≡ Done (0 + length (encodeAll (head s delay count z)))
+  first-done f = f ∙ put-done xs 0 (head s delay count z) (fields s (count - 1) (low s 1024)) head-small head-room
 
   pub first-stored : {r : Put} {next : ℕ} {ys : List ℕ} → r ≡ putAnswer xs 0 (head s delay count z) → r ≡ Done next
       → ys ≡ putBytes xs 0 (head s delay count z) → length ys ≡ length xs
@@ -124,10 +125,7 @@ module _ {s : Seen} (b : Begun s) {end : ℕ} {zs ys : List ℕ} {at p left : �
     some-left = split (top s p) 0 (λ i. absurd (let n = ap length (down-none s p (omega arith)) in omega (arith, c .some))) (λ i. i)
 
     pub step-sizes : (0 < m) × (0 < z) × (m + z ≤ p)
-    step-sizes =
-        let i = some-left in
-        let l = size-le s p in
-        (omega (arith, missing-pos (c .bottom) (omega arith)), omega (arith, size-pos s p i), omega arith)
+    step-sizes = rw (e, f) (sizes (c .bottom) some-left)
 
     pair-fields : fields s left p ≡ (m - 1) ∷ (z - 1) ∷ fields s (left - 1) (low s p)
     pair-fields =
@@ -143,8 +141,9 @@ module _ {s : Seen} (b : Begun s) {end : ℕ} {zs ys : List ℕ} {at p left : �
     pair-room : at + length (encodeAll ((m - 1) ∷ (z - 1) ∷ fields s (left - 1) (low s p))) ≤ length ys
     pair-room = omega (arith, ap (λ (l : List ℕ). length (encodeAll l)) pair-fields, c .ends, c .room)
 
-    pub pair-never : {r : Put} → r ≡ putAnswer ys at ((m - 1) ∷ (z - 1) ∷ []) → r ≡ Done (at + length (encodeAll ((m - 1) ∷ (z - 1) ∷ [])))
-    pair-never g = g ∙ put-done ys at ((m - 1) ∷ (z - 1) ∷ []) (fields s (left - 1) (low s p)) pair-small pair-room
+    -- and so is each later one
+    pub pair-done : {r : Put} → r ≡ putAnswer ys at ((m - 1) ∷ (z - 1) ∷ []) → r ≡ Done (at + length (encodeAll ((m - 1) ∷ (z - 1) ∷ [])))
+    pair-done g = g ∙ put-done ys at ((m - 1) ∷ (z - 1) ∷ []) (fields s (left - 1) (low s p)) pair-small pair-room
 
     pub pair-stored : {r : Put} {next : ℕ} {us : List ℕ} → r ≡ putAnswer ys at ((m - 1) ∷ (z - 1) ∷ []) → r ≡ Done next
         → us ≡ putBytes ys at ((m - 1) ∷ (z - 1) ∷ []) → length us ≡ length ys → Storing s end zs us next (p - m - z) (left - 1)

@@ -2,12 +2,12 @@
 -- Assumes nothing.
 use Prim.Native.Nat.{ℕ, suc, _-_, _/_, _≤_, _<_}
 use mathlib.Core.Path.{_≡_, refl, ap}
-use mathlib.Core.Bool.{true, false}
+use mathlib.Core.Bool.{Bool, true, false}
 use mathlib.Core.List.{List}
 use native.Mathlib.Omega.{arith}
 use borrow.Author.Tests.{le-leb, leb-true, eq-eqb, ne-eqb}
 use lib.ListN.{length}
-use Rattle.wire.specs.Bytes.{splice}
+use Rattle.wire.specs.Bytes.{pick, splice}
 use Rattle.wire.specs.Numbers.{limit}
 use Rattle.receiver.specs.declared.Micros.{Micros}
 use Rattle.receiver.specs.declared.Receiver.{Receiver}
@@ -44,11 +44,11 @@ module _ (r : Receiver) (time : Micros) (room : ℕ) where
       module _ (n : r .seen .end ≡ 0 → ⊥) where
         pub gives-nine : fits (r .seen) (ackDelay (r .seen) time) room 1 ≡ false → writeRefusal r time room ≡ 9
         unfolding writeRefusal
-        gives-nine e = rw (y, t, ne-eqb (r .seen .end) 0 n, e)
+        gives-nine e = rw (y, t, ne-eqb (r .seen .end) 0 n) (ap (λ (b : Bool). pick b 0 9) e)
 
         pub gives-none : fits (r .seen) (ackDelay (r .seen) time) room 1 ≡ true → writeRefusal r time room ≡ 0
         unfolding writeRefusal
-        gives-none e = rw (y, t, ne-eqb (r .seen .end) 0 n, e)
+        gives-none e = rw (y, t, ne-eqb (r .seen .end) 0 n) (ap (λ (b : Bool). pick b 0 9) e)
 
 module _ (r : Receiver) (time : Micros) (xs : List ℕ) where
   pub refused : (n : ℕ) → writeRefusal r time (length xs) ≡ suc n

@@ -55,6 +55,7 @@ impl Seen {
                 return count;
             }
             bytes = bytes + wire::width(range.missing - 1) + wire::width(range.size - 1);
+            // The range count, now of `count` ranges after the first, may take a byte more.
             if room < bytes + wire::width(count) {
                 return count;
             }
@@ -70,6 +71,7 @@ impl Seen {
         ensures { λ r. ⌜ (r ≡ length (frame self delay count)) × (now (buf .exit) ≡ splice (now (buf .entry)) 0 (frame self delay count)) ⌝ }
     {
         let first = self.range_below(1024);
+        // Type 02, largest, delay, range count, first range (RFC 9000 19.3).
         let fields = [2, self.end - 1, delay, count - 1, first.size - 1];
         let Put::Done { next } = wire::put_numbers(buf, 0, &fields) else {
             return 0;
@@ -79,6 +81,7 @@ impl Seen {
         let mut left = count - 1;
         while 0 < left {
             let range = self.range_below(low);
+            // Gap and length, each one less than what it counts.
             let pair = [range.missing - 1, range.size - 1];
             let Put::Done { next: after } = wire::put_numbers(buf, at, &pair) else {
                 return 0;
@@ -88,6 +91,19 @@ impl Seen {
             left -= 1;
         }
         at
+    }
+}
+
+impl Wrote {
+    // A refusal's number and the record as it came.
+    fn refused(result: u64, kept: Receiver) -> Wrote
+        ensures { λ r. ⌜ r ≡ record { result = result; length = 0; next = kept } ⌝ }
+    {
+        Wrote {
+            result,
+            length: 0,
+            next: kept,
+        }
     }
 }
 
@@ -116,35 +132,19 @@ impl Receiver {
         ensures { λ r. ⌜ (r ≡ writeAnswer self time (now (buf .entry))) × (now (buf .exit) ≡ writeBytes self time (now (buf .entry))) ⌝ }
     {
         if !self.consistent() {
-            return Wrote {
-                result: 1,
-                length: 0,
-                next: self,
-            };
+            return Wrote::refused(1, self);
         }
         if !numbers::is_small(time.0) {
-            return Wrote {
-                result: 5,
-                length: 0,
-                next: self,
-            };
+            return Wrote::refused(5, self);
         }
         let seen = self.seen;
         if seen.end == 0 {
-            return Wrote {
-                result: 8,
-                length: 0,
-                next: self,
-            };
+            return Wrote::refused(8, self);
         }
         let delay = numbers::less(time.0, seen.arrived.0) / 8;
         let count = seen.kept(delay, buf.len());
         if count == 0 {
-            return Wrote {
-                result: 9,
-                length: 0,
-                next: self,
-            };
+            return Wrote::refused(9, self);
         }
         let length = seen.store(delay, count, buf);
         let next = self.written();

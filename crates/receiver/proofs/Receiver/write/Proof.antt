@@ -1,6 +1,6 @@
 -- `receiver::Receiver::write` meets its contract: the refusals in the definition's order, and then the frame that `kept` and `store` make.
 -- Assumes nothing.
-use mathlib.Core.Path.{_≡_}
+use mathlib.Core.Path.{_≡_, _∙_}
 use mathlib.Core.Bool.{true}
 use native.Mathlib.Omega.{arith}
 use borrow.Author.Needs.{needs}
@@ -23,25 +23,40 @@ timely c = held (c .before .is-small .ensures) (c .if2 .left)
 consistent-requires : tie.Need-consistent-requires
 consistent-requires c κs = search needs
 
+refused-requires : tie.Need-refused-requires
+refused-requires c κs = search needs
+
 returns : tie.Need-returns
 returns c =
-    let a = c .before .before .before .args in
-    refused (a .self) (a .time) (a .buf .now) 0 (gives-one _ _ _ (failed (c .before .consistent .ensures) (c .if1 .taken)))
+    let i = c .before in
+    let a = i .before .before .before .args in
+    let w = refused (a .self) (a .time) (a .buf .now) 0 (gives-one _ _ _ (failed (i .before .consistent .ensures) (i .if1 .taken))) in
+    (c .refused .ensures ∙ w .0, w .1)
 
 is-small-requires : tie.Need-is-small-requires
 is-small-requires c κs = search needs
 
+refused-requires-2 : tie.Need-refused-requires-2
+refused-requires-2 c κs = search needs
+
 returns-2 : tie.Need-returns-2
 returns-2 c =
-    let a = c .before .before .before .before .before .args in
-    refused (a .self) (a .time) (a .buf .now) 4
-    (gives-five _ _ _ (held (c .before .before .before .consistent .ensures) (c .before .before .if1 .left)) (failed (c .before .is-small .ensures) (c .if2 .taken)))
+    let i = c .before in
+    let a = i .before .before .before .before .before .args in
+    let w = refused (a .self) (a .time) (a .buf .now) 4
+    (gives-five _ _ _ (held (i .before .before .before .consistent .ensures) (i .before .before .if1 .left)) (failed (i .before .is-small .ensures) (i .if2 .taken))) in
+    (c .refused2 .ensures ∙ w .0, w .1)
+
+refused-requires-3 : tie.Need-refused-requires-3
+refused-requires-3 c κs = search needs
 
 returns-3 : tie.Need-returns-3
 returns-3 c =
-    let k = c .before .before .before in
+    let i = c .before in
+    let k = i .before .before .before in
     let a = entry k .args in
-    refused (a .self) (a .time) (a .buf .now) 7 (gives-eight _ _ _ (whole k) (timely k) (c .if3 .taken))
+    let w = refused (a .self) (a .time) (a .buf .now) 7 (gives-eight _ _ _ (whole k) (timely k) (i .if3 .taken)) in
+    (c .refused3 .ensures ∙ w .0, w .1)
 
 less-requires : tie.Need-less-requires
 less-requires c κs = search needs
@@ -56,12 +71,17 @@ kept-requires c κs =
       omega (arith, entry k .good .1 .1 .0 .1),
     )
 
+refused-requires-4 : tie.Need-refused-requires-4
+refused-requires-4 c κs = search needs
+
 returns-4 : tie.Need-returns-4
 returns-4 c =
-    let l = c .before .before in
+    let i = c .before in
+    let l = i .before .before in
     let k = l .before .before .before .before in
     let a = entry k .args in
-    wrote-none (a .self) (a .time) (a .buf .now) (whole k) (timely k) (l .before .if3 .left) (l .less .ensures) (c .before .kept .ensures) (c .if4 .taken)
+    let w = wrote-none (a .self) (a .time) (a .buf .now) (whole k) (timely k) (l .before .if3 .left) (l .less .ensures) (i .before .kept .ensures) (i .if4 .taken) in
+    (c .refused4 .ensures ∙ w .0, w .1)
 
 store-requires : tie.Need-store-requires
 store-requires c κs =
@@ -90,12 +110,16 @@ write-spec =
     tie.close
     (tie.spec
     consistent-requires
+    refused-requires
     returns
     is-small-requires
+    refused-requires-2
     returns-2
+    refused-requires-3
     returns-3
     less-requires
     kept-requires
+    refused-requires-4
     returns-4
     store-requires
     written-requires

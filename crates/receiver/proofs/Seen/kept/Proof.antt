@@ -1,11 +1,10 @@
 -- `receiver::Seen::kept` meets its contract. The loop's invariant: the ranges counted so far fit, and the bytes of any more are those to come.
 -- Assumes nothing.
-use Prim.Native.Nat.{_+_, _-_, _≤_, _<_}
+use Prim.Native.Nat.{_+_, _≤_, _<_}
 use native.Mathlib.Omega.{arith}
 use borrow.Author.Needs.{needs}
-use Rattle.wire.proofs.Lengths.{width-le}
 use Rattle.receiver.proofs.Ranges.{Begun, begun, size}
-use Rattle.receiver.proofs.Fitting.{Counted, count-all, first-size, none-fits, first-fits, all-fit, step-sizes, no-more-fit, one-more-fits}
+use Rattle.receiver.proofs.Fitting.{narrow, Counted, count-all, first-size, none-fits, first-fits, all-fit, step-sizes, no-more-fit, one-more-fits}
 use Rattle.receiver.proofs.Seen.kept.Statement.{statement}
 use Rattle.receiver.proofs.Seen.kept.Tie as tie
 
@@ -45,15 +44,18 @@ width-requires : tie.Need-width-requires Inv-loop μ-loop
 width-requires c κs = search needs
 
 add-bytes : tie.Need-add-bytes Inv-loop μ-loop
-add-bytes c = omega (arith, width-le (c .before .before .before .args .self .end - 1), c .width .ensures)
+add-bytes c =
+    let x = narrow _ (c .width .ensures) in
+    omega arith
 
 width-requires-2 : tie.Need-width-requires-2 Inv-loop μ-loop
 width-requires-2 c κs = search needs
 
 add-bytes-2 : tie.Need-add-bytes-2 Inv-loop μ-loop
 add-bytes-2 c =
-    let a = c .before .before .before .before .args in
-    omega (arith, width-le (a .self .end - 1), width-le (a .delay), c .width2 .ensures, c .before .width .ensures)
+    let x = narrow _ (c .before .width .ensures) in
+    let y = narrow _ (c .width2 .ensures) in
+    omega arith
 
 sub-width-2 : tie.Need-sub-width-2 Inv-loop μ-loop
 sub-width-2 c =
@@ -65,13 +67,17 @@ width-requires-3 c κs = search needs
 
 add-bytes-3 : tie.Need-add-bytes-3 Inv-loop μ-loop
 add-bytes-3 c =
-    let a = c .before .before .before .before .before .before .args in
-    omega (arith, width-le (a .self .end - 1), width-le (a .delay), width-le (c .before .before .before .before .before .range-below .result .size - 1), c .width3 .ensures, c .before .before .width2 .ensures, c .before .before .before .width .ensures)
+    let x = narrow _ (c .before .before .before .width .ensures) in
+    let y = narrow _ (c .before .before .width2 .ensures) in
+    let z = narrow _ (c .width3 .ensures) in
+    omega arith
 
 add-if1 : tie.Need-add-if1 Inv-loop μ-loop
 add-if1 c =
-    let a = c .before .before .before .before .before .before .args in
-    omega (arith, width-le (a .self .end - 1), width-le (a .delay), width-le (c .before .before .before .before .before .range-below .result .size - 1), c .width3 .ensures, c .before .before .width2 .ensures, c .before .before .before .width .ensures)
+    let x = narrow _ (c .before .before .before .width .ensures) in
+    let y = narrow _ (c .before .before .width2 .ensures) in
+    let z = narrow _ (c .width3 .ensures) in
+    omega arith
 
 returns : tie.Need-returns Inv-loop μ-loop
 returns c =
@@ -109,8 +115,9 @@ width-requires-4 c κs = search needs
 
 add-bytes-4 : tie.Need-add-bytes-4 Inv-loop μ-loop
 add-bytes-4 c =
-    let e = c .before .before in
-    omega (arith, head e .loop .inv .fit, origin (head e) .pre .3, width-le (e .before .before .range-below2 .result .missing - 1), c .width4 .ensures)
+    let l = head (c .before .before) in
+    let x = narrow _ (c .width4 .ensures) in
+    omega (arith, l .loop .inv .fit, origin l .pre .3)
 
 sub-width-4 : tie.Need-sub-width-4 Inv-loop μ-loop
 sub-width-4 c = omega (arith, sizes (c .before .before .before))
@@ -120,19 +127,21 @@ width-requires-5 c κs = search needs
 
 add-bytes-5 : tie.Need-add-bytes-5 Inv-loop μ-loop
 add-bytes-5 c =
-    let e = c .before .before .before .before in
-    let r = e .before .before .range-below2 .result in
-    omega (arith, head e .loop .inv .fit, origin (head e) .pre .3, width-le (r .missing - 1), width-le (r .size - 1), c .width5 .ensures, c .before .before .width4 .ensures)
+    let l = head (c .before .before .before .before) in
+    let x = narrow _ (c .before .before .width4 .ensures) in
+    let y = narrow _ (c .width5 .ensures) in
+    omega (arith, l .loop .inv .fit, origin l .pre .3)
 
 width-requires-6 : tie.Need-width-requires-6 Inv-loop μ-loop
 width-requires-6 c κs = search needs
 
 add-if3 : tie.Need-add-if3 Inv-loop μ-loop
 add-if3 c =
-    let e = c .before .before .before .before .before in
-    let r = e .before .before .range-below2 .result in
-    omega
-    (arith, head e .loop .inv .fit, origin (head e) .pre .3, width-le (r .missing - 1), width-le (r .size - 1), width-le (head e .loop .count), c .width6 .ensures, c .before .width5 .ensures, c .before .before .before .width4 .ensures)
+    let l = head (c .before .before .before .before .before) in
+    let x = narrow _ (c .before .before .before .width4 .ensures) in
+    let y = narrow _ (c .before .width5 .ensures) in
+    let z = narrow _ (c .width6 .ensures) in
+    omega (arith, l .loop .inv .fit, origin l .pre .3)
 
 returns-3 : tie.Need-returns-3 Inv-loop μ-loop
 returns-3 c =

@@ -11,7 +11,7 @@ use Rattle.wire.specs.Numbers.{encodeAll}
 use Rattle.receiver.specs.Write.{frame}
 use Rattle.receiver.proofs.Ranges.{Begun, begun, fields}
 use Rattle.receiver.proofs.Fitting.{bytesBelow, first-size}
-use Rattle.receiver.proofs.Storing.{Storing, afresh, first-never, first-stored, stored, step-sizes, pair-never, pair-stored}
+use Rattle.receiver.proofs.Storing.{Storing, afresh, first-done, first-stored, stored, step-sizes, pair-done, pair-stored}
 use Rattle.receiver.proofs.Seen.store.Statement.{statement}
 use Rattle.receiver.proofs.Seen.store.Tie as tie
 
@@ -80,7 +80,7 @@ returns : tie.Need-returns Inv-loop μ-loop
 returns c =
     let k = c .before .before .before in
     let o = entry k in
-    let e = first-never (started o) (o .pre .2) (o .pre .3) (o .pre .4) (o .args .buf .now) (o .pre .5) (k .before .before .before .before .before .range-below .ensures .1) (k .put-numbers .ensures .0) in
+    let e = first-done (started o) (o .pre .2) (o .pre .3) (o .pre .4) (o .args .buf .now) (o .pre .5) (k .before .before .before .before .before .range-below .ensures .1) (k .put-numbers .ensures .0) in
     absurd (⊎-elim (λ (i : _≡_ {A = ℕ} 0 1). omega arith) (λ (i : _≡_ {A = ℕ} 0 2). omega arith) (rw e at (c .match .keys2)))
 
 sub-low : tie.Need-sub-low Inv-loop μ-loop
@@ -120,7 +120,7 @@ returns-2 c =
     let q = c .before .before .before in
     let r = q .before .before .before .before .before in
     let l = r .before .before in
-    let e = pair-never (started (origin l)) (l .loop .inv .1) (r .before .loop-test .taken) (r .range-below2 .ensures .0) (r .range-below2 .ensures .1) (q .put-numbers2 .ensures .0) in
+    let e = pair-done (started (origin l)) (l .loop .inv .1) (r .before .loop-test .taken) (r .range-below2 .ensures .0) (r .range-below2 .ensures .1) (q .put-numbers2 .ensures .0) in
     absurd (⊎-elim (λ (i : _≡_ {A = ℕ} 0 1). omega arith) (λ (i : _≡_ {A = ℕ} 0 2). omega arith) (rw e at (c .match2 .keys2)))
 
 sub-low-3 : tie.Need-sub-low-3 Inv-loop μ-loop
