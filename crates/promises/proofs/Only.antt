@@ -13,8 +13,8 @@ use Rattle.window.proofs.Window.advanced.Reads as advanced
 use Rattle.window.proofs.Window.advanced.Kinds as advanced-kinds
 use Rattle.window.proofs.Window.first_missing.Reads as first-missing
 use Rattle.window.proofs.Window.first_missing.Kinds as first-missing-kinds
-use Rattle.window.proofs.Window.run_below.Reads as run-below
-use Rattle.window.proofs.Window.run_below.Kinds as run-below-kinds
+use Rattle.window.proofs.run_below.Reads as run-below
+use Rattle.window.proofs.run_below.Kinds as run-below-kinds
 use Rattle.window.proofs.Window.none_below.Reads as none-below
 use Rattle.window.proofs.Window.none_below.Kinds as none-below-kinds
 
@@ -33,7 +33,7 @@ advanced-one κs given x y s t p q = p ∙ sym q
 pub first-missing-one : OneAnswer 0 first-missing-kinds.ps first-missing-kinds.r first-missing.Post
 first-missing-one κs given x y s t p q = p ∙ sym q
 
-pub run-below-one : OneAnswer 0 run-below-kinds.ps run-below-kinds.r run-below.Post
+pub run-below-one : OneAnswer 1 run-below-kinds.ps run-below-kinds.r run-below.Post
 run-below-one κs given x y s t p q = p ∙ sym q
 
 pub none-below-one : OneAnswer 0 none-below-kinds.ps none-below-kinds.r none-below.Post

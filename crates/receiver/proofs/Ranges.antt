@@ -1,7 +1,7 @@
 -- The ranges of the window, downwards place by place: each step passes what is missing and takes a run of received numbers.
 -- Assumes nothing.
 use Prim.Native.Nat.{ℕ, zero, suc, _+_, _-_, _*_, _≤_, _<_}
-use mathlib.Core.Path.{_≡_, refl, sym, ap, _∙_}
+use mathlib.Core.Path.{_≡_, refl, sym, ap, _∙_, subst}
 use mathlib.Core.Bool.{Bool, true, false, _&&_, _||_}
 use mathlib.Core.List.{List, [], _∷_}
 use native.Mathlib.Omega.{arith}
@@ -10,7 +10,8 @@ use lib.Dec.{eqb, leb}
 use lib.ListN.{length, take}
 use Rattle.wire.specs.Numbers.{limit}
 use Rattle.wire.proofs.Lengths.{split}
-use Rattle.window.specs.Window.{valueOf, isSet, runBelow, noneBelow}
+use Rattle.window.specs.Window.{valueOf, lentValue, isSet, runBelow, noneBelow}
+use Rattle.window.proofs.Sixteen.{Sixteen, lent-value}
 use Rattle.window.proofs.Runs.{run-on, run-off, run-le}
 use Rattle.window.proofs.Laws.{run-says, none-says}
 use Rattle.frames.specs.Ack.{gapsFrom}
@@ -71,6 +72,12 @@ run-pos b p w h e =
     omega (arith, ap (λ (m : ℕ). runBelow b m w) n, run-on b (p - 1) w e)
 
 -- how far a step goes; where it takes nothing, nothing is left
+-- as the code finds them in the words that it lends
+pub ranged : (s : Seen) → Sixteen (s .window .words) → (p m z : ℕ)
+    → (m ≡ runBelow false p (lentValue (s .window .words))) × (z ≡ runBelow true (p - runBelow false p (lentValue (s .window .words))) (lentValue (s .window .words)))
+    → (m ≡ missing s p) × (z ≡ size s p)
+ranged s h p m z r = subst (λ (w : ℕ). (m ≡ runBelow false p w) × (z ≡ runBelow true (p - runBelow false p w) w)) (lent-value (s .window .words) h) r
+
 pub missing-le : (s : Seen) (p : ℕ) → missing s p ≤ p
 missing-le s p = run-le false p (valueOf (s .window))
 

@@ -5,7 +5,7 @@ ghost use Prim.Native.Nat.{_-_, _^_, _≤_, _<_};
 ghost use lib.ListN.{length};
 ghost use Rattle.wire.specs.Numbers.{limit};
 ghost use Rattle.wire.specs.Bytes.{splice};
-ghost use Rattle.window.specs.Window.{valueOf, runBelow};
+ghost use Rattle.window.specs.Window.{lentValue, runBelow};
 ghost use Rattle.receiver.specs.Record.{seenConsistent};
 ghost use Rattle.receiver.specs.Write.{numberOfRanges, frame, kept, written, writeAnswer, writeBytes};
 use crate::Micros;
@@ -22,23 +22,22 @@ struct Range {
     size: u64,
 }
 
-impl Seen {
-    // The newest range below a place.
-    fn range_below(self, place: u64) -> Range
-        ensures { λ r. ⌜ (r .missing ≡ runBelow false place (valueOf (self .window))) × (r .size ≡ runBelow true (place - runBelow false place (valueOf (self .window))) (valueOf (self .window))) ⌝ }
-    {
-        let window = self.window;
-        let missing = window.run_below(place, false);
-        let size = window.run_below(place - missing, true);
-        Range { missing, size }
-    }
+// The newest range below a place of a window's words.
+fn range_below(words: &[u64; 16], place: u64) -> Range
+    ensures { λ r. ⌜ (r .missing ≡ runBelow false place (lentValue (now (words .entry)))) × (r .size ≡ runBelow true (place - runBelow false place (lentValue (now (words .entry)))) (lentValue (now (words .entry)))) ⌝ }
+{
+    let missing = window::run_below(words, place, false);
+    let size = window::run_below(words, place - missing, true);
+    Range { missing, size }
+}
 
+impl Seen {
     // How many of the newest ranges fit the room: 0 where not even the first does.
     fn kept(self, delay: u64, room: usize) -> u64
         requires { ⌜ (seenConsistent self ≡ true) × (0 < self .end) × (delay ≤ limit) × (room < 2 ^ 63) ⌝ }
         ensures { λ r. ⌜ r ≡ kept self delay room ⌝ }
     {
-        let first = self.range_below(1024);
+        let first = range_below(&self.window.words, 1024);
         // The bytes of the frame so far, without its range count.
         let mut bytes = 1
             + wire::width(self.end - 1)
@@ -50,7 +49,7 @@ impl Seen {
         let mut count: u64 = 1;
         let mut low = 1024 - first.size;
         while 0 < low {
-            let range = self.range_below(low);
+            let range = range_below(&self.window.words, low);
             if range.size == 0 {
                 return count;
             }
@@ -70,7 +69,7 @@ impl Seen {
         requires { ⌜ (seenConsistent self ≡ true) × (0 < self .end) × (delay ≤ limit) × (0 < count) × (count ≤ numberOfRanges self) × (length (frame self delay count) ≤ length (now buf)) ⌝ }
         ensures { λ r. ⌜ (r ≡ length (frame self delay count)) × (now (buf .exit) ≡ splice (now (buf .entry)) 0 (frame self delay count)) ⌝ }
     {
-        let first = self.range_below(1024);
+        let first = range_below(&self.window.words, 1024);
         // Type 02, largest, delay, range count, first range (RFC 9000 19.3).
         let fields = [2, self.end - 1, delay, count - 1, first.size - 1];
         let Put::Done { next } = wire::put_numbers(buf, 0, &fields) else {
@@ -80,7 +79,7 @@ impl Seen {
         let mut low = 1024 - first.size;
         let mut left = count - 1;
         while 0 < left {
-            let range = self.range_below(low);
+            let range = range_below(&self.window.words, low);
             // Gap and length, each one less than what it counts.
             let pair = [range.missing - 1, range.size - 1];
             let Put::Done { next: after } = wire::put_numbers(buf, at, &pair) else {

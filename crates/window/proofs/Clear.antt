@@ -11,7 +11,7 @@ use Rattle.window.specs.Window.{firstClear}
 use Rattle.window.specs.declared.Missing.the-variants.{At, Nothing}
 use Rattle.window.proofs.Words.{number-bit}
 use Rattle.window.proofs.Sixteen.{Sixteen}
-use Rattle.window.proofs.Zeros.{run-set, run-end}
+use Rattle.window.proofs.Zeros.{run-set, run-end, rest-some, rest-none}
 
 -- a clear bit is found
 pub hit : (n p w : ℕ) → zero < n → bit w p ≡ 0 → firstClear n p w ≡ At p
@@ -60,6 +60,13 @@ module _ (ws : List ℕ) (h : Sixteen ws) (p : ℕ) where
   found l =
       let i : p % 64 + zerosAt < 64 = omega arith in
       there zerosAt i ∙ run-end 64 (getD ws (p / 64) 0) (p % 64) (h .words (p / 64)) i
+
+  -- the word has a clear bit from p on, or none, as what is left of its inverse tells
+  pub some-left : (((2 ^ 64 - 1) - getD ws (p / 64) 0) / 2 ^ (p % 64) ≡ 0 → ⊥) → zerosAt < 64 - p % 64
+  some-left f = rest-some 64 (getD ws (p / 64) 0) (p % 64) (h .words (p / 64)) (omega arith) f
+
+  pub none-left : ((2 ^ 64 - 1) - getD ws (p / 64) 0) / 2 ^ (p % 64) ≡ 0 → 64 - p % 64 ≤ zerosAt
+  none-left e = rest-none 64 (getD ws (p / 64) 0) (p % 64) (h .words (p / 64)) e
 
   -- the word has a clear bit among the n places
   pub word-hit : (n : ℕ) → zerosAt < 64 - p % 64 → zerosAt < n → firstClear n p (numberOf ws) ≡ At (p + zerosAt)

@@ -6,16 +6,26 @@ use native.Mathlib.Nat.{mod-eq-of-lt, one-mul, zero-mul, add-zero, add-mul-mod-s
 use native.Mathlib.Omega.{arith}
 use lib.Pow.{pow-add, pow-lt}
 use lib.ListN.{length, getD, set, length-set}
-use Rattle.window.specs.Words.{numberOf, wordsOf, bit}
-use Rattle.window.specs.Window.{withBit}
+use Rattle.window.specs.Words.{numberOf, wordsOf, wordsIn, bit}
+use Rattle.window.specs.Window.{lentValue, withBit}
 use Rattle.window.specs.declared.Window.{Window}
 use Rattle.window.proofs.Bits.{bit-above, bit-room}
-use Rattle.window.proofs.Words.{Words, number-lt, number-bit, words-number, words-low, number-set, words-set}
+use Rattle.window.proofs.Words.{Words, number-lt, number-bit, words-number, words-low, number-set, words-set, length-in, words-in, in-words}
 
 -- what owning a `[u64; 16]` tells of its list
 pub record Sixteen (ws : List ℕ) : Type 0 where
   pub long : length ws ≡ 16
   pub words : Words ws
+
+-- what sixteen words in any list are, and that a window's own words are these
+pub lent : (xs : List ℕ) → Sixteen (wordsIn 16 xs)
+lent xs = record { long = length-in 16 xs; words = words-in 16 xs }
+
+pub lent-same : (ws : List ℕ) → Sixteen ws → wordsIn 16 ws ≡ ws
+lent-same ws h = subst (λ (n : ℕ). wordsIn n ws ≡ ws) (h .long) (in-words ws (h .words))
+
+pub lent-value : (ws : List ℕ) → Sixteen ws → lentValue ws ≡ numberOf ws
+lent-value ws h = ap numberOf (lent-same ws h)
 
 -- equal words are equal windows
 pub as-window : (l m : List ℕ) → l ≡ m → _≡_ {A = Window} (record { words = l }) (record { words = m })

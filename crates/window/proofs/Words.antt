@@ -2,13 +2,13 @@
 use mathlib.Core.Path.{_≡_, refl, sym, ap, ap₂, _∙_, subst}
 use mathlib.Core.List.{List, [], _∷_}
 use Prim.Native.Nat.{ℕ, zero, suc, _+_, _*_, _/_, _%_, _^_, _<_}
-use native.Mathlib.Nat.{not-suc-le-zero, le-of-suc-le-suc, div-one, zero-div, mul-assoc, mod-lt, add-zero}
+use native.Mathlib.Nat.{not-suc-le-zero, le-of-suc-le-suc, div-one, zero-div, mul-assoc, mod-lt, mod-eq-of-lt, add-zero}
 use native.Mathlib.Omega.{arith}
 use lib.Arith.{digits-div, digits-mod, digits-lt}
 use lib.Pow.{shr-shr, pow-add, pow-pos, mod-pow-add}
 use lib.ListN.{length, getD, set, drop}
 use lib.Seq.{getD-drop}
-use Rattle.window.specs.Words.{numberOf, wordsOf, bit}
+use Rattle.window.specs.Words.{numberOf, wordsOf, wordsIn, bit}
 use Rattle.window.proofs.Bits.{bit-add, bit-cat}
 
 -- each element is a word
@@ -117,3 +117,30 @@ pub words-low : (n w : ℕ) → wordsOf n (w % 2 ^ (64 * n)) ≡ wordsOf n w
 words-low n w =
     ap (wordsOf n) (sym (number-words n w))
     ∙ subst (λ (m : ℕ). wordsOf m (numberOf (wordsOf n w)) ≡ wordsOf n w) (length-words n w) (words-number (wordsOf n w) (words-words n w))
+
+-- ---- the words in any list
+
+pub length-in : (n : ℕ) (xs : List ℕ) → length (wordsIn n xs) ≡ n
+unfolding wordsIn
+length-in zero xs = refl
+length-in (suc n) xs = ap suc (length-in n (drop 1 xs))
+
+pub word-in : (n : ℕ) (xs : List ℕ) (i : ℕ) → i < n → getD (wordsIn n xs) i 0 ≡ getD xs i 0 % 2 ^ 64
+unfolding wordsIn
+word-in zero xs i l = absurd (not-suc-le-zero l)
+word-in (suc n) xs zero l = refl
+word-in (suc n) xs (suc i) l =
+    let e : 1 + i ≡ suc i = omega arith in
+    word-in n (drop 1 xs) i (le-of-suc-le-suc l) ∙ ap (λ (x : ℕ). x % 2 ^ 64) (getD-drop 1 xs i 0 ∙ ap (λ (j : ℕ). getD xs j 0) e)
+
+pub words-in : (n : ℕ) (xs : List ℕ) → Words (wordsIn n xs)
+unfolding wordsIn
+words-in zero xs i = pow-pos 64
+words-in (suc n) xs zero = mod-lt (getD xs 0 0) (pow-pos 64)
+words-in (suc n) xs (suc i) = words-in n (drop 1 xs) i
+
+-- of words they are the words themselves
+pub in-words : (xs : List ℕ) → Words xs → wordsIn (length xs) xs ≡ xs
+unfolding wordsIn
+in-words [] h = refl
+in-words (x ∷ xs) h = ap₂ (λ (a : ℕ) (l : List ℕ). a ∷ l) (mod-eq-of-lt (h 0)) (in-words xs (λ j. h (suc j)))

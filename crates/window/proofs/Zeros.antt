@@ -2,12 +2,12 @@
 use mathlib.Core.Path.{_≡_, refl, sym, ap, _∙_}
 use mathlib.Core.Bool.{Bool, true, false}
 use mathlib.Core.Logic.{⊎-elim}
-use Prim.Native.Nat.{ℕ, zero, suc, _+_, _-_, _*_, _/_, _%_, _^_, _≤_, _<_}
-use native.Mathlib.Nat.{not-suc-le-zero, le-of-suc-le-suc, eq-zero-or-pos, mod-lt}
+use Prim.Native.Nat.{ℕ, zero, suc, _+_, _-_, _*_, _/_, _%_, _^_, _≤_, _<_, suc-le-suc}
+use native.Mathlib.Nat.{not-suc-le-zero, le-of-suc-le-suc, zero-lt-suc, eq-zero-or-pos, mod-lt, pow-suc}
 use native.Mathlib.Omega.{arith}
 use borrow.Author.Tests.{eq-eqb, ne-eqb, eqb-true, eqb-false}
-use lib.Count.{trailingZeros, leadingZeros, under, leading-length, leading-top, leading-of-zero}
-use lib.Pow.{pow-pos}
+use lib.Count.{trailingZeros, leadingZeros, under, trailing-of-zero, leading-length, leading-top, leading-of-zero}
+use lib.Pow.{pow-pos, shr-lt}
 use Rattle.window.specs.Words.{bit, otherThan}
 use Rattle.window.specs.Window.{isSet}
 use Rattle.window.proofs.Bits.{bit-zero, bit-suc, bit-add, bit-not, bit-lt, bit-above, bit-low, bit-up, bit-top}
@@ -35,6 +35,17 @@ at-zeros (suc n) x h = go (at-zeros n (x / 2)) (x % 2) refl h
     go rest zero e l = bit-suc x (trailingZeros n (x / 2)) ∙ rest (le-of-suc-le-suc l)
     go rest (suc d) e l = let z : x % 2 ≡ 1 = omega arith in bit-zero x ∙ z
 
+-- a number below 2 ^ m that is not 0 has fewer than m of them
+pub zeros-in : (m n x : ℕ) → m ≤ n → 0 < x → x < 2 ^ m → trailingZeros n x < m
+unfolding trailingZeros
+zeros-in zero n x l p h = absurd (omega arith)
+zeros-in (suc m) zero x l p h = absurd (not-suc-le-zero l)
+zeros-in (suc m) (suc n) x l p h = go (zeros-in m n (x / 2) (le-of-suc-le-suc l)) (x % 2) refl
+  where
+    go : (0 < x / 2 → x / 2 < 2 ^ m → trailingZeros n (x / 2) < m) → (d : ℕ) → x % 2 ≡ d → under d (trailingZeros n (x / 2)) < suc m
+    go rest zero e = suc-le-suc (rest (omega arith) (omega (arith, pow-suc 2 m)))
+    go rest (suc d) e = zero-lt-suc m
+
 -- of an inverted number, from place k on: `trailing_zeros(!a >> k)`
 module _ (n a k : ℕ) (h : a < 2 ^ n) where
   inverted : (q : ℕ) → k + q < n → bit (((2 ^ n - 1) - a) / 2 ^ k) q ≡ 1 - bit a (k + q)
@@ -48,6 +59,15 @@ module _ (n a k : ℕ) (h : a < 2 ^ n) where
   run-end l =
       let t = trailingZeros n (((2 ^ n - 1) - a) / 2 ^ k) in
       let z : 1 - bit a (k + t) ≡ 1 = sym (inverted t l) ∙ at-zeros n _ (omega arith) in omega arith
+
+  -- what is left of it is 0 exactly where no bit from place k on is clear
+  pub rest-some : k ≤ n → (((2 ^ n - 1) - a) / 2 ^ k ≡ 0 → ⊥) → trailingZeros n (((2 ^ n - 1) - a) / 2 ^ k) < n - k
+  rest-some l f =
+      let e : 2 ^ (n - k + k) ≡ 2 ^ n = ap (λ (m : ℕ). 2 ^ m) (omega arith) in
+      zeros-in (n - k) n _ (omega arith) (⊎-elim (λ z. absurd (f z)) (λ p. p) (eq-zero-or-pos (((2 ^ n - 1) - a) / 2 ^ k))) (shr-lt (n - k) k (omega arith))
+
+  pub rest-none : ((2 ^ n - 1) - a) / 2 ^ k ≡ 0 → n - k ≤ trailingZeros n (((2 ^ n - 1) - a) / 2 ^ k)
+  rest-none e = let z : trailingZeros n (((2 ^ n - 1) - a) / 2 ^ k) ≡ n = ap (trailingZeros n) e ∙ trailing-of-zero n in omega arith
 
 -- ---- from above: leading zeros
 

@@ -1,8 +1,9 @@
 -- The window's meaning: its sixteen words are one number W below 2 ^ 1024, and a place is marked where W's bit there is 1. Assumes nothing.
 use mathlib.Core.Bool.{Bool, true, false, Bool·beq}
+use mathlib.Core.List.{List}
 use Prim.Native.Nat.{ℕ, zero, suc, _+_, _-_, _*_, _%_, _^_}
 use lib.Dec.{eqb}
-use Rattle.window.specs.Words.{numberOf, wordsOf, bit}
+use Rattle.window.specs.Words.{numberOf, wordsOf, wordsIn, bit}
 use Rattle.window.specs.declared.Window.{Window}
 use Rattle.window.specs.declared.Missing.{Missing}
 use Rattle.window.specs.declared.Missing.the-variants.{At, Nothing}
@@ -10,6 +11,10 @@ use Rattle.window.specs.declared.Missing.the-variants.{At, Nothing}
 -- The number W of a window.
 abbrev pub valueOf : Window → ℕ
 valueOf s = numberOf (s .words)
+
+-- The number W of a window's words that are lent. What lies behind a reference may be any list in a contract, and a window's words are its first sixteen.
+abbrev pub lentValue : List ℕ → ℕ
+lentValue words = numberOf (wordsIn 16 words)
 
 -- The window of a number, of which it keeps the 1,024 lowest bits.
 abbrev pub windowOf : ℕ → Window

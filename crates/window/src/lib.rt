@@ -4,7 +4,7 @@
 ghost use mathlib.Core.Path.{_≡_};
 ghost use Prim.Native.Nat.{_*_, _/_, _-_, _^_, _<_, _≤_};
 ghost use Rattle.window.specs.Words.{otherThan};
-ghost use Rattle.window.specs.Window.{valueOf, windowOf, isSet, withBit, firstClear, runBelow, noneBelow};
+ghost use Rattle.window.specs.Window.{valueOf, lentValue, windowOf, isSet, withBit, firstClear, runBelow, noneBelow};
 
 #[repr(C)]
 pub struct Window {
@@ -18,11 +18,45 @@ pub enum Missing {
     Nothing,
 }
 
-// The word with a 1 at each place whose mark is not `marked`.
+// The word with a 1 at each place whose mark is not `marked`. That it was a word is said for callers that read it behind a reference.
 fn other_than(marked: bool, word: u64) -> u64
-    ensures { λ r. ⌜ r ≡ otherThan marked word ⌝ }
+    ensures { λ r. ⌜ (r ≡ otherThan marked word) × (word < 2 ^ 64) ⌝ }
 {
     if marked { !word } else { word }
+}
+
+// How many places directly below place n are marked, or, with `marked` false, are not, where n is at most 1,024.
+fn run_within(words: &[u64; 16], n: u64, marked: bool) -> u64
+    requires { ⌜ n ≤ 1024 ⌝ }
+    ensures { λ r. ⌜ r ≡ runBelow marked n (lentValue (now (words .entry))) ⌝ }
+{
+    let mut left = n;
+    while 0 < left {
+        let i = ((left - 1) / 64) as usize;
+        let k = (left - 1) % 64;
+        let word = words[i];
+        let other = other_than(marked, word);
+        let t = u64::leading_zeros(other << (63 - k)) as u64;
+        if t <= k {
+            return n - left + t;
+        }
+        left = left - (k + 1);
+    }
+    n
+}
+
+// How many places directly below place n are marked, or, with `marked` false, are not.
+// The words are lent: a caller that goes over all runs asks this in a loop, and a window by value would be copied in each turn.
+pub fn run_below(words: &[u64; 16], n: u64, marked: bool) -> u64
+    ensures { λ r. ⌜ r ≡ runBelow marked n (lentValue (now (words .entry))) ⌝ }
+{
+    if n <= 1024 {
+        return run_within(words, n, marked);
+    }
+    if marked {
+        return 0;
+    }
+    n - 1024 + run_within(words, 1024, false)
 }
 
 impl Window {
@@ -114,6 +148,9 @@ impl Window {
     pub fn first_missing(self, from: u64, to: u64) -> Missing
         ensures { λ r. ⌜ r ≡ firstClear (to - from) from (valueOf self) ⌝ }
     {
+        if to <= from {
+            return Missing::Nothing;
+        }
         let words = self.words;
         let mut at = from;
         while at < to {
@@ -123,9 +160,9 @@ impl Window {
             let i = (at / 64) as usize;
             let k = at % 64;
             let word = words[i];
-            let t = u64::trailing_zeros(!word >> k) as u64;
-            if t < 64 - k {
-                let place = at + t;
+            let rest = !word >> k;
+            if rest != 0 {
+                let place = at + u64::trailing_zeros(rest) as u64;
                 if place < to {
                     return Missing::At(place);
                 }
@@ -134,40 +171,6 @@ impl Window {
             at = at + (64 - k);
         }
         Missing::Nothing
-    }
-
-    // How many places directly below place n are marked, or, with `marked` false, are not, where n is at most 1,024.
-    fn run_within(self, n: u64, marked: bool) -> u64
-        requires { ⌜ n ≤ 1024 ⌝ }
-        ensures { λ r. ⌜ r ≡ runBelow marked n (valueOf self) ⌝ }
-    {
-        let words = self.words;
-        let mut left = n;
-        while 0 < left {
-            let i = ((left - 1) / 64) as usize;
-            let k = (left - 1) % 64;
-            let word = words[i];
-            let other = other_than(marked, word);
-            let t = u64::leading_zeros(other << (63 - k)) as u64;
-            if t <= k {
-                return n - left + t;
-            }
-            left = left - (k + 1);
-        }
-        n
-    }
-
-    // How many places directly below place n are marked, or, with `marked` false, are not.
-    pub fn run_below(self, n: u64, marked: bool) -> u64
-        ensures { λ r. ⌜ r ≡ runBelow marked n (valueOf self) ⌝ }
-    {
-        if n <= 1024 {
-            return self.run_within(n, marked);
-        }
-        if marked {
-            return 0;
-        }
-        n - 1024 + self.run_within(1024, false)
     }
 
     // Whether no place below place p is marked.

@@ -6,10 +6,10 @@ use Rattle.window.proofs.other_than.Statement.{statement}
 use Rattle.window.proofs.other_than.Tie as tie
 
 returns : tie.Need-returns
-returns c = sym (ap (λ (b : Bool). otherThan b (c .before .args .word)) (c .if1 .taken))
+returns c = (sym (ap (λ (b : Bool). otherThan b (c .before .args .word)) (c .if1 .taken)), c .before .fits .word .fits)
 
 returns-2 : tie.Need-returns-2
-returns-2 c = sym (ap (λ (b : Bool). otherThan b (c .before .args .word)) (c .if1 .left))
+returns-2 c = (sym (ap (λ (b : Bool). otherThan b (c .before .args .word)) (c .if1 .left)), c .before .fits .word .fits)
 
 pub other-than-spec : {M : Type 1} → statement M
 other-than-spec = tie.close (tie.spec returns returns-2)

@@ -3,42 +3,63 @@
 use Prim.Native.Nat.{_+_, _≤_, _<_}
 use native.Mathlib.Omega.{arith}
 use borrow.Author.Needs.{needs}
-use Rattle.receiver.proofs.Ranges.{Begun, begun, size}
+use mathlib.Core.Path.{_≡_}
+use mir.Val.{Fits}
+use mir.Syntax.{w64}
+use lib.ListN.{getD}
+use Rattle.window.proofs.Sixteen.{Sixteen}
+use Rattle.receiver.proofs.Ranges.{Begun, begun, missing, size, ranged}
 use Rattle.receiver.proofs.Fitting.{narrow, Counted, count-all, first-size, none-fits, first-fits, all-fit, step-sizes, no-more-fit, one-more-fits}
 use Rattle.receiver.proofs.Seen.kept.Statement.{statement}
 use Rattle.receiver.proofs.Seen.kept.Tie as tie
 
 abbrev Inv-loop : tie.InvT-loop
-Inv-loop self delay room bytes₀ count₀ low₀ bytes count low = Counted self delay room low bytes count
+Inv-loop delay room self bytes₀ count₀ low₀ bytes count low = Counted self delay room low bytes count
 
 abbrev μ-loop : tie.MeasureT-loop
-μ-loop self delay room bytes₀ count₀ low₀ bytes count low = low
+μ-loop delay room self bytes₀ count₀ low₀ bytes count low = low
 
 -- what the code requires of the record
-started : (c : tie.Start Inv-loop μ-loop) → Begun (c .args .self)
-started c = begun (c .args .self) (c .pre .0) (c .pre .1)
+started : (c : tie.Start Inv-loop μ-loop) → Begun (c .args .t1)
+started c = begun (c .args .t1) (c .pre .0) (c .pre .1)
 
 -- the entry, from the loop's head
 abbrev origin : tie.At-loop Inv-loop μ-loop → tie.Start Inv-loop μ-loop
-origin c = c .before .before .before .before .before .before .before .before .before
+origin c = c .before .before .before .before .before .before .before .before .before .before
+
+-- the words that are lent are the record's own
+own : (c : tie.Start Inv-loop μ-loop) → Sixteen (c .args .t1 .window .words)
+own c = record { long = search needs; words = λ i. let f : Fits w64 (getD (c .args .t1 .window .words) i 0) = search needs in f .fits }
+
+-- the first range, and the one that a turn finds
+found : (c : tie.After-range-below Inv-loop μ-loop)
+    → (c .range-below .result .missing ≡ missing (c .before .before .before .args .t1) 1024) × (c .range-below .result .size ≡ size (c .before .before .before .args .t1) 1024)
+found c = let s = c .before .before .before in ranged (s .args .t1) (own s) 1024 _ _ (c .range-below .ensures)
 
 -- the loop's head, from a turn that found a range, and what the range takes
 abbrev head : tie.Else2 Inv-loop μ-loop → tie.At-loop Inv-loop μ-loop
-head c = c .before .before .before .before
+head c = c .before .before .before .before .before .before
+
+another : (c : tie.After-range-below2 Inv-loop μ-loop)
+    → (c .range-below2 .result .missing ≡ missing (origin (c .before .before .before .before) .args .t1) (c .before .before .before .before .loop .low))
+    × (c .range-below2 .result .size ≡ size (origin (c .before .before .before .before) .args .t1) (c .before .before .before .before .loop .low))
+another c =
+    let l = c .before .before .before .before in
+    let o = origin l in ranged (o .args .t1) (own o) (l .loop .low) _ _ (c .range-below2 .ensures)
 
 sizes : (c : tie.Else2 Inv-loop μ-loop)
     → (0 < c .before .before .range-below2 .result .missing) × (0 < c .before .before .range-below2 .result .size)
     × (c .before .before .range-below2 .result .missing + c .before .before .range-below2 .result .size ≤ head c .loop .low)
 sizes c =
     let o = origin (head c) in
-    let r = c .before .before .range-below2 .ensures in
+    let r = another (c .before .before) in
     step-sizes (started o) (o .pre .2) (head c .loop .inv) (r .0) (r .1) (c .if2 .left)
 
 range-below-requires : tie.Need-range-below-requires Inv-loop μ-loop
 range-below-requires c κs = search needs
 
 sub-width : tie.Need-sub-width Inv-loop μ-loop
-sub-width c = omega (arith, c .before .before .pre .1)
+sub-width c = omega (arith, c .before .before .before .pre .1)
 
 width-requires : tie.Need-width-requires Inv-loop μ-loop
 width-requires c κs = search needs
@@ -59,8 +80,8 @@ add-bytes-2 c =
 
 sub-width-2 : tie.Need-sub-width-2 Inv-loop μ-loop
 sub-width-2 c =
-    let s = c .before .before .before .before .before in
-    omega (arith, first-size (started s), c .before .before .before .before .range-below .ensures)
+    let r = c .before .before .before in
+    omega (arith, first-size (started (r .before .before .before)), found r)
 
 width-requires-3 : tie.Need-width-requires-3 Inv-loop μ-loop
 width-requires-3 c κs = search needs
@@ -82,20 +103,20 @@ add-if1 c =
 returns : tie.Need-returns Inv-loop μ-loop
 returns c =
     let k = c .before in
-    let s = k .before .before .before .before .before .before in
-    none-fits (started s) (s .pre .2) (k .before .before .before .before .before .range-below .ensures .1) (k .before .before .before .width .ensures) (k .before .before .width2 .ensures) (k .width3 .ensures) (c .if1 .taken)
+    let s = k .before .before .before .before .before .before .before in
+    none-fits (started s) (s .pre .2) (found (k .before .before .before .before) .1) (k .before .before .before .width .ensures) (k .before .before .width2 .ensures) (k .width3 .ensures) (c .if1 .taken)
 
 sub-low : tie.Need-sub-low Inv-loop μ-loop
 sub-low c =
     let k = c .before .before in
-    let s = k .before .before .before .before .before .before in
-    omega (arith, first-size (started s), k .before .before .before .before .before .range-below .ensures)
+    let s = k .before .before .before .before .before .before .before in
+    omega (arith, first-size (started s), found (k .before .before .before .before))
 
 loop-holds : tie.Need-loop-holds Inv-loop μ-loop
 loop-holds c =
     let k = c .before .before in
-    let s = k .before .before .before .before .before .before in
-    first-fits (started s) (s .pre .2) (k .before .before .before .before .before .range-below .ensures .1) (k .before .before .before .width .ensures) (k .before .before .width2 .ensures) (k .width3 .ensures) (c .before .if1 .left)
+    let s = k .before .before .before .before .before .before .before in
+    first-fits (started s) (s .pre .2) (found (k .before .before .before .before) .1) (k .before .before .before .width .ensures) (k .before .before .width2 .ensures) (k .width3 .ensures) (c .before .if1 .left)
 
 range-below-requires-2 : tie.Need-range-below-requires-2 Inv-loop μ-loop
 range-below-requires-2 c κs = search needs
@@ -103,9 +124,9 @@ range-below-requires-2 c κs = search needs
 returns-2 : tie.Need-returns-2 Inv-loop μ-loop
 returns-2 c =
     let k = c .before .before in
-    let l = k .before .before in
+    let l = k .before .before .before .before in
     let o = origin l in
-    all-fit (started o) (o .pre .2) (l .loop .inv) (k .range-below2 .ensures .0) (k .range-below2 .ensures .1) (c .if2 .taken)
+    all-fit (started o) (o .pre .2) (l .loop .inv) (another k .0) (another k .1) (c .if2 .taken)
 
 sub-width-3 : tie.Need-sub-width-3 Inv-loop μ-loop
 sub-width-3 c = omega (arith, sizes (c .before))
@@ -148,7 +169,7 @@ returns-3 c =
     let k = c .before in
     let e = k .before .before .before .before .before in
     let o = origin (head e) in
-    let r = e .before .before .range-below2 .ensures in
+    let r = another (e .before .before) in
     no-more-fit (started o) (o .pre .2) (head e .loop .inv) (r .0) (r .1) (e .if2 .left) (k .before .before .before .width4 .ensures) (k .before .width5 .ensures) (k .width6 .ensures) (c .if3 .taken)
 
 add-count : tie.Need-add-count Inv-loop μ-loop
@@ -168,7 +189,7 @@ loop-again c =
     let k = c .before .before .before in
     let e = k .before .before .before .before .before in
     let o = origin (head e) in
-    let r = e .before .before .range-below2 .ensures in
+    let r = another (e .before .before) in
     one-more-fits (started o) (o .pre .2) (head e .loop .inv) (r .0) (r .1) (e .if2 .left) (k .before .before .before .width4 .ensures) (k .before .width5 .ensures) (k .width6 .ensures) (c .before .before .if3 .left)
 
 returns-4 : tie.Need-returns-4 Inv-loop μ-loop

@@ -13,7 +13,7 @@ use lib.ListN.{getD}
 use Rattle.window.specs.Words.{numberOf}
 use Rattle.window.specs.Window.{firstClear}
 use Rattle.window.proofs.Sixteen.{Sixteen, past}
-use Rattle.window.proofs.Clear.{hit, stop, word-hit, word-past, word-skip}
+use Rattle.window.proofs.Clear.{hit, stop, some-left, none-left, word-hit, word-past, word-skip}
 use Rattle.window.proofs.Window.first_missing.Statement.{statement}
 use Rattle.window.proofs.Window.first_missing.Tie as tie
 
@@ -26,13 +26,16 @@ abbrev μ-loop : tie.MeasureT-loop
 known : (c : tie.Start Inv-loop μ-loop) → Sixteen (c .args .self .words)
 known c = record { long = search needs; words = λ i. let f : Fits w64 (getD (c .args .self .words) i 0) = search needs in f .fits }
 
+returns : tie.Need-returns Inv-loop μ-loop
+returns c = sym (stop _ _ _ (omega arith))
+
 loop-holds : tie.Need-loop-holds Inv-loop μ-loop
 loop-holds c = refl
 
-returns : tie.Need-returns Inv-loop μ-loop
-returns c =
+returns-2 : tie.Need-returns-2 Inv-loop μ-loop
+returns-2 c =
     let l = c .before .before in
-    sym (l .loop .inv ∙ hit _ (l .loop .at) _ (omega arith) (past _ (known (l .before .before)) (l .loop .at) (c .if1 .taken)))
+    sym (l .loop .inv ∙ hit _ (l .loop .at) _ (omega arith) (past _ (known (l .before .before .before)) (l .loop .at) (c .if2 .taken)))
 
 mul-word : tie.Need-mul-word Inv-loop μ-loop
 mul-word c = omega arith
@@ -40,27 +43,28 @@ mul-word c = omega arith
 array-read-word : tie.Need-array-read-word Inv-loop μ-loop
 array-read-word c = omega arith
 
-shr-t : tie.Need-shr-t Inv-loop μ-loop
-shr-t c = omega arith
+shr-rest : tie.Need-shr-rest Inv-loop μ-loop
+shr-rest c = omega arith
 
-cast-t : tie.Need-cast-t Inv-loop μ-loop
-cast-t c = record { fits = lt-of-le-of-lt (trailing-le 64 _) (lit< tt) }
-
-sub-if2 : tie.Need-sub-if2 Inv-loop μ-loop
-sub-if2 c = omega arith
+cast-place : tie.Need-cast-place Inv-loop μ-loop
+cast-place c = record { fits = lt-of-le-of-lt (trailing-le 64 _) (lit< tt) }
 
 add-place : tie.Need-add-place Inv-loop μ-loop
-add-place c = omega arith
-
-returns-2 : tie.Need-returns-2 Inv-loop μ-loop
-returns-2 c =
-    let l = c .before .before .before .before in
-    sym (l .loop .inv ∙ word-hit _ (known (l .before .before)) (l .loop .at) _ (c .before .if2 .taken) (omega arith))
+add-place c =
+    let l = c .before .before .before in
+    omega (arith, some-left _ (known (l .before .before .before)) (l .loop .at) (c .if3 .taken))
 
 returns-3 : tie.Need-returns-3 Inv-loop μ-loop
 returns-3 c =
     let l = c .before .before .before .before in
-    sym (l .loop .inv ∙ word-past _ (known (l .before .before)) (l .loop .at) _ (c .before .if2 .taken) (omega arith))
+    let h = known (l .before .before .before) in
+    sym (l .loop .inv ∙ word-hit _ h (l .loop .at) _ (some-left _ h (l .loop .at) (c .before .if3 .taken)) (omega arith))
+
+returns-4 : tie.Need-returns-4 Inv-loop μ-loop
+returns-4 c =
+    let l = c .before .before .before .before in
+    let h = known (l .before .before .before) in
+    sym (l .loop .inv ∙ word-past _ h (l .loop .at) _ (some-left _ h (l .loop .at) (c .before .if3 .taken)) (omega arith))
 
 sub-at : tie.Need-sub-at Inv-loop μ-loop
 sub-at c = omega arith
@@ -74,14 +78,14 @@ loop-less c = omega arith
 loop-again : tie.Need-loop-again Inv-loop μ-loop
 loop-again c =
     let l = c .before .before .before in
-    let s = l .before .before in
+    let s = l .before .before .before in
     let k = 64 - l .loop .at % 64 in
     let e : s .args .to - l .loop .at - k ≡ s .args .to - (l .loop .at + k) = omega arith in
-    l .loop .inv ∙ word-skip _ (known s) (l .loop .at) (s .args .to - l .loop .at) (c .if2 .left)
+    l .loop .inv ∙ word-skip _ (known s) (l .loop .at) (s .args .to - l .loop .at) (none-left _ (known s) (l .loop .at) (c .if3 .left))
     ∙ ap (λ (n : ℕ). firstClear n (l .loop .at + k) (numberOf (s .args .self .words))) e
 
-returns-4 : tie.Need-returns-4 Inv-loop μ-loop
-returns-4 c = sym (c .before .loop .inv ∙ stop _ _ _ (omega arith))
+returns-5 : tie.Need-returns-5 Inv-loop μ-loop
+returns-5 c = sym (c .before .loop .inv ∙ stop _ _ _ (omega arith))
 
 pub first-missing-spec : {M : Type 1} → statement M
 first-missing-spec =
@@ -89,18 +93,18 @@ first-missing-spec =
     (tie.spec
     Inv-loop
     μ-loop
-    loop-holds
     returns
+    loop-holds
+    returns-2
     mul-word
     array-read-word
-    shr-t
-    cast-t
-    sub-if2
+    shr-rest
+    cast-place
     add-place
-    returns-2
     returns-3
+    returns-4
     sub-at
     add-at
     loop-less
     loop-again
-    returns-4)
+    returns-5)

@@ -1,8 +1,8 @@
--- `Window::run_within` meets its contract. The invariant: the run below n is the places passed over and the run below `left`.
+-- `run_within` meets its contract. The invariant: the run below n is the places passed over and the run below `left`.
 -- The measure is `left`. Assumes nothing.
-use mathlib.Core.Path.{_≡_, ap}
-use Prim.Native.Nat.{ℕ, _+_, _-_, _*_, _%_, _^_, _≤_}
-use native.Mathlib.Nat.{lt-of-le-of-lt}
+use mathlib.Core.Path.{_≡_, sym, ap, _∙_}
+use Prim.Native.Nat.{ℕ, _+_, _-_, _*_, _/_, _%_, _^_, _≤_}
+use native.Mathlib.Nat.{lt-of-le-of-lt, mod-eq-of-lt}
 use native.Mathlib.Omega.{arith}
 use borrow.Author.Needs.{needs}
 use mir.Val.{Fits}
@@ -10,21 +10,19 @@ use mir.Syntax.{w64}
 use lib.Count.{leadingZeros, leading-le}
 use lib.Dec.{lit<}
 use lib.ListN.{getD}
-use Rattle.window.specs.Words.{numberOf}
-use Rattle.window.specs.Window.{runBelow}
-use Rattle.window.proofs.Sixteen.{Sixteen}
+use Rattle.window.specs.Words.{wordsIn, otherThan}
+use Rattle.window.specs.Window.{lentValue, runBelow}
+use Rattle.window.proofs.Words.{word-in}
+use Rattle.window.proofs.Sixteen.{lent}
 use Rattle.window.proofs.Runs.{run-none, runAt, word-stop, word-skip}
-use Rattle.window.proofs.Window.run_within.Statement.{statement}
-use Rattle.window.proofs.Window.run_within.Tie as tie
+use Rattle.window.proofs.run_within.Statement.{statement}
+use Rattle.window.proofs.run_within.Tie as tie
 
 abbrev Inv-loop : tie.InvT-loop
-Inv-loop n marked words left₀ left = (left ≤ n) × (runBelow marked n (numberOf words) ≡ n - left + runBelow marked left (numberOf words))
+Inv-loop words n marked left₀ left = (left ≤ n) × (runBelow marked n (lentValue words) ≡ n - left + runBelow marked left (lentValue words))
 
 abbrev μ-loop : tie.MeasureT-loop
-μ-loop n marked words left₀ left = left
-
-known : (c : tie.Start Inv-loop μ-loop) → Sixteen (c .args .self .words)
-known c = record { long = search needs; words = λ i. let f : Fits w64 (getD (c .args .self .words) i 0) = search needs in f .fits }
+μ-loop words n marked left₀ left = left
 
 loop-holds : tie.Need-loop-holds Inv-loop μ-loop
 loop-holds c = omega arith
@@ -38,8 +36,8 @@ sub-k c = omega arith
 mul-word : tie.Need-mul-word Inv-loop μ-loop
 mul-word c = omega arith
 
-array-read-word : tie.Need-array-read-word Inv-loop μ-loop
-array-read-word c = omega arith
+element-copy-out-word : tie.Need-element-copy-out-word Inv-loop μ-loop
+element-copy-out-word c = omega arith
 
 other-than-requires : tie.Need-other-than-requires Inv-loop μ-loop
 other-than-requires c κs = tt
@@ -52,18 +50,24 @@ shl-t c = omega arith
 
 -- the zeros that the code counts are a run of marks
 abbrev zeros : tie.After-other-than Inv-loop μ-loop → ℕ
-zeros c = leadingZeros 64 ((c .other-than .result * 2 ^ (63 - (c .before .before .loop .left - 1) % 64)) % 2 ^ 64)
+zeros c = leadingZeros 64 ((c .other-than .result * 2 ^ (63 - (c .before .before .before .loop .left - 1) % 64)) % 2 ^ 64)
 
 abbrev run : tie.After-other-than Inv-loop μ-loop → ℕ
 run c =
     let s = c .before .before .before .before in
-    runAt (s .args .self .words) (known s) (s .args .marked) (c .before .before .loop .left - 1)
+    runAt (wordsIn 16 (s .args .words .now)) (lent (s .args .words .now)) (s .args .marked) (c .before .before .before .loop .left - 1)
 
 counted : (c : tie.After-other-than Inv-loop μ-loop) → zeros c ≡ run c
-counted c = ap (λ (x : ℕ). leadingZeros 64 ((x * 2 ^ (63 - (c .before .before .loop .left - 1) % 64)) % 2 ^ 64)) (c .other-than .ensures)
+counted c =
+    let l = c .before .before .before in
+    let s = l .before in
+    let i = (l .loop .left - 1) / 64 in
+    let e : getD (s .args .words .now) i 0 ≡ getD (wordsIn 16 (s .args .words .now)) i 0
+    = sym (word-in 16 (s .args .words .now) i (omega arith) ∙ mod-eq-of-lt (c .other-than .ensures .1)) in
+    ap (λ (x : ℕ). leadingZeros 64 ((x * 2 ^ (63 - (l .loop .left - 1) % 64)) % 2 ^ 64)) (c .other-than .ensures .0 ∙ ap (otherThan (s .args .marked)) e)
 
 -- `left` is one more than the place that is looked at
-above : (c : tie.After-other-than Inv-loop μ-loop) → c .before .before .loop .left ≡ c .before .before .loop .left - 1 + 1
+above : (c : tie.After-other-than Inv-loop μ-loop) → c .before .before .before .loop .left ≡ c .before .before .before .loop .left - 1 + 1
 above c = omega arith
 
 cast-t : tie.Need-cast-t Inv-loop μ-loop
@@ -77,15 +81,15 @@ add-result c = omega arith
 
 returns : tie.Need-returns Inv-loop μ-loop
 returns c =
-    let l = c .before .before .before in
-    let s = l .before .before in
+    let l = c .before .before .before .before in
+    let s = l .before in
     let e = counted (c .before) in
     omega (
       arith,
       l .loop .inv .1,
       e,
-      ap (λ (m : ℕ). runBelow (s .args .marked) m (numberOf (s .args .self .words))) (above (c .before)),
-      word-stop _ (known s) (s .args .marked) (l .loop .left - 1) (omega arith),
+      ap (λ (m : ℕ). runBelow (s .args .marked) m (lentValue (s .args .words .now))) (above (c .before)),
+      word-stop _ (lent (s .args .words .now)) (s .args .marked) (l .loop .left - 1) (omega arith),
     )
 
 add-left : tie.Need-add-left Inv-loop μ-loop
@@ -99,8 +103,8 @@ loop-less c = omega arith
 
 loop-again : tie.Need-loop-again Inv-loop μ-loop
 loop-again c =
-    let l = c .before .before .before in
-    let s = l .before .before in
+    let l = c .before .before .before .before in
+    let s = l .before in
     let e = counted (c .before) in
     let k = (l .loop .left - 1) % 64 in
     let d : l .loop .left - (k + 1) ≡ l .loop .left - 1 - k = omega arith in (
@@ -108,17 +112,17 @@ loop-again c =
       omega (
         arith,
         l .loop .inv .1,
-        ap (λ (m : ℕ). runBelow (s .args .marked) m (numberOf (s .args .self .words))) (above (c .before)),
-        ap (λ (m : ℕ). runBelow (s .args .marked) m (numberOf (s .args .self .words))) d,
-        word-skip _ (known s) (s .args .marked) (l .loop .left - 1) (omega arith),
+        ap (λ (m : ℕ). runBelow (s .args .marked) m (lentValue (s .args .words .now))) (above (c .before)),
+        ap (λ (m : ℕ). runBelow (s .args .marked) m (lentValue (s .args .words .now))) d,
+        word-skip _ (lent (s .args .words .now)) (s .args .marked) (l .loop .left - 1) (omega arith),
       ),
     )
 
 returns-2 : tie.Need-returns-2 Inv-loop μ-loop
 returns-2 c =
-    let s = c .before .before .before in
+    let s = c .before .before in
     let z : c .before .loop .left ≡ 0 = omega arith in
-    omega (arith, c .before .loop .inv .1, run-none (s .args .marked) (c .before .loop .left) (numberOf (s .args .self .words)) z)
+    omega (arith, c .before .loop .inv .1, run-none (s .args .marked) (c .before .loop .left) (lentValue (s .args .words .now)) z)
 
 pub run-within-spec : {M : Type 1} → statement M
 run-within-spec =
@@ -130,7 +134,7 @@ run-within-spec =
     sub-i
     sub-k
     mul-word
-    array-read-word
+    element-copy-out-word
     other-than-requires
     sub-t
     shl-t

@@ -1,4 +1,4 @@
--- `Window::run_below` meets its contract: the places from 1,024 on are not marked. Assumes nothing.
+-- `run_below` meets its contract: the places from 1,024 on are not marked. Assumes nothing.
 use mathlib.Core.Path.{sym, ap, _∙_}
 use mathlib.Core.Bool.{Bool, false}
 use Prim.Native.Nat.{ℕ, _+_, _-_}
@@ -7,14 +7,11 @@ use borrow.Author.Needs.{needs}
 use mir.Val.{Fits}
 use mir.Syntax.{w64}
 use lib.ListN.{getD}
-use Rattle.window.specs.Window.{runBelow, valueOf}
-use Rattle.window.proofs.Sixteen.{Sixteen}
+use Rattle.window.specs.Window.{lentValue, runBelow}
+use Rattle.window.proofs.Sixteen.{lent}
 use Rattle.window.proofs.Runs.{run-le, run-past-marked, run-past-not}
-use Rattle.window.proofs.Window.run_below.Statement.{statement}
-use Rattle.window.proofs.Window.run_below.Tie as tie
-
-known : (c : tie.Start) → Sixteen (c .args .self .words)
-known c = record { long = search needs; words = λ i. let f : Fits w64 (getD (c .args .self .words) i 0) = search needs in f .fits }
+use Rattle.window.proofs.run_below.Statement.{statement}
+use Rattle.window.proofs.run_below.Tie as tie
 
 run-within-requires : tie.Need-run-within-requires
 run-within-requires c κs = search needs
@@ -25,7 +22,7 @@ returns c = search needs
 returns-2 : tie.Need-returns-2
 returns-2 c =
     let s = c .before .before in
-    sym (ap (λ (b : Bool). runBelow b (s .args .n) (valueOf (s .args .self))) (c .if2 .taken) ∙ run-past-marked _ (known s) (s .args .n) (c .before .if1 .left))
+    sym (ap (λ (b : Bool). runBelow b (s .args .n) (lentValue (s .args .words .now))) (c .if2 .taken) ∙ run-past-marked _ (lent (s .args .words .now)) (s .args .n) (c .before .if1 .left))
 
 sub-result : tie.Need-sub-result
 sub-result c = search needs
@@ -35,13 +32,13 @@ run-within-requires-2 c κs = search needs
 
 add-result : tie.Need-add-result
 add-result c =
-    let s = c .before .before .before in omega (arith, c .run-within2 .ensures, run-le false 1024 (valueOf (s .args .self)))
+    let s = c .before .before .before in omega (arith, c .run-within2 .ensures, run-le false 1024 (lentValue (s .args .words .now)))
 
 returns-3 : tie.Need-returns-3
 returns-3 c =
     let s = c .before .before .before in
     ap (λ (r : ℕ). s .args .n - 1024 + r) (c .run-within2 .ensures)
-    ∙ sym (ap (λ (b : Bool). runBelow b (s .args .n) (valueOf (s .args .self))) (c .before .if2 .left) ∙ run-past-not _ (known s) (s .args .n) (c .before .before .if1 .left))
+    ∙ sym (ap (λ (b : Bool). runBelow b (s .args .n) (lentValue (s .args .words .now))) (c .before .if2 .left) ∙ run-past-not _ (lent (s .args .words .now)) (s .args .n) (c .before .before .if1 .left))
 
 pub run-below-spec : {M : Type 1} → statement M
 run-below-spec =
