@@ -1,0 +1,39 @@
+-- "this paper's number and values for each of the enum's cases": the three frames.
+use Prim.Native.Nat.{ℕ}
+use Rattle.frames.specs.Refusals.{frequencyRefusal, immediateRefusal, ackRefusal}
+use Rattle.frames.specs.declared.Frequency as frequency
+use Rattle.frames.specs.declared.Immediate as immediate
+use Rattle.frames.specs.declared.Ack as ack
+use Rattle.host.specs.declared.FrequencyOut.{FrequencyOut}
+use Rattle.host.specs.declared.ImmediateOut.{ImmediateOut}
+use Rattle.host.specs.declared.AckOut.{AckOut}
+
+-- a refusal of ACK_FREQUENCY has no values
+abbrev pub noFrequency : ℕ → FrequencyOut
+noFrequency result = record { result = result; sequence = 0; threshold = 0; delay = 0; reordering = 0; used = 0 }
+
+-- "sequence, ack-eliciting threshold, requested maximum delay in microseconds, reordering threshold", and "the length used"
+unfoldable pub frequencyOut : frequency.Frequency → FrequencyOut
+frequencyOut (frequency.the-variants.Frame q t d r used) =
+    record { result = frequencyRefusal (frequency.the-variants.Frame q t d r used); sequence = q; threshold = t; delay = d; reordering = r; used = used }
+frequencyOut frequency.the-variants.Ends = noFrequency (frequencyRefusal frequency.the-variants.Ends)
+frequencyOut frequency.the-variants.OtherType = noFrequency (frequencyRefusal frequency.the-variants.OtherType)
+
+-- "the length used"
+unfoldable pub immediateOut : immediate.Immediate → ImmediateOut
+immediateOut (immediate.the-variants.Frame used) = record { result = immediateRefusal (immediate.the-variants.Frame used); used = used }
+immediateOut immediate.the-variants.Ends = record { result = immediateRefusal immediate.the-variants.Ends; used = 0 }
+immediateOut immediate.the-variants.OtherType = record { result = immediateRefusal immediate.the-variants.OtherType; used = 0 }
+
+-- a refusal of ACK has no values
+abbrev pub noAck : ℕ → AckOut
+noAck result = record { result = result; largest = 0; delay = 0; ranges = 0; used = 0 }
+
+-- "largest, delay", the number of ranges, and "the length used"
+unfoldable pub ackOut : ack.Ack → AckOut
+ackOut (ack.the-variants.Frame l d n used) =
+    record { result = ackRefusal (ack.the-variants.Frame l d n used); largest = l; delay = d; ranges = n; used = used }
+ackOut ack.the-variants.Ends = noAck (ackRefusal ack.the-variants.Ends)
+ackOut ack.the-variants.OtherType = noAck (ackRefusal ack.the-variants.OtherType)
+ackOut ack.the-variants.BelowZero = noAck (ackRefusal ack.the-variants.BelowZero)
+ackOut ack.the-variants.NoRoom = noAck (ackRefusal ack.the-variants.NoRoom)

@@ -1,0 +1,4 @@
+pub mod Numbers
+pub mod Frames
+pub mod Calls
+pub mod Reports

@@ -1,0 +1,19 @@
+-- "this paper's number and values for each of the enum's cases": numbers on the wire.
+use Rattle.wire.specs.Refusals.{numberRefusal, putRefusal}
+use Rattle.wire.specs.declared.Number.{Number}
+use Rattle.wire.specs.declared.Number.the-variants.{Value, Ends}
+use Rattle.wire.specs.declared.Put.{Put}
+use Rattle.wire.specs.declared.Put.the-variants.{Done, TooLarge, NoRoom}
+use Rattle.host.specs.declared.NumberOut.{NumberOut}
+use Rattle.host.specs.declared.PutOut.{PutOut}
+
+-- a value and the place after it
+unfoldable pub numberOut : Number → NumberOut
+numberOut (Value value next) = record { result = numberRefusal (Value value next); value = value; next = next }
+numberOut Ends = record { result = numberRefusal Ends; value = 0; next = 0 }
+
+-- the place after what was written
+unfoldable pub putOut : Put → PutOut
+putOut (Done next) = record { result = putRefusal (Done next); next = next }
+putOut TooLarge = record { result = putRefusal TooLarge; next = 0 }
+putOut NoRoom = record { result = putRefusal NoRoom; next = 0 }

@@ -1,0 +1,74 @@
+// The archive for hosts in C and Rust: every call of the library under a C name, as include/lumbixet.h declares it.
+// Document 01 leaves sockets, encryption, loss recovery and rate control outside: the host has them.
+// Where a lower crate answers an enum, a host gets the paper's number and the case's values, and 0 for what the case has not.
+mod calls;
+mod codec;
+mod numbers;
+mod reports;
+
+// A number that was read, and the place after it.
+#[repr(C)]
+pub struct NumberOut {
+    pub result: u64,
+    pub value: u64,
+    pub next: u64,
+}
+
+// What a writer of numbers and frames answers: the place after what was written.
+#[repr(C)]
+pub struct PutOut {
+    pub result: u64,
+    pub next: u64,
+}
+
+// The four values of an ACK_FREQUENCY frame, and its length.
+#[repr(C)]
+pub struct FrequencyOut {
+    pub result: u64,
+    pub sequence: u64,
+    pub threshold: u64,
+    pub delay: u64,
+    pub reordering: u64,
+    pub used: u64,
+}
+
+// An IMMEDIATE_ACK frame's length.
+#[repr(C)]
+pub struct ImmediateOut {
+    pub result: u64,
+    pub used: u64,
+}
+
+// An ACK frame's numbers, how many ranges were written to the lent slice, and the frame's length.
+#[repr(C)]
+pub struct AckOut {
+    pub result: u64,
+    pub largest: u64,
+    pub delay: u64,
+    pub ranges: u64,
+    pub used: u64,
+}
+
+// Where the entries of a report stand in the caller's own bytes, and how many bytes they take.
+#[repr(C)]
+pub struct EntriesOut {
+    pub start: u64,
+    pub length: u64,
+}
+
+// One entry of a report.
+#[repr(C)]
+pub struct EntryOut {
+    pub result: u64,
+    pub object: u64,
+    pub status: u64,
+    pub age: u64,
+}
+
+// What the writer of reports answers: the length of the report, and how many records were kept.
+#[repr(C)]
+pub struct WrittenOut {
+    pub result: u64,
+    pub next: u64,
+    pub kept: u64,
+}

@@ -1,0 +1,215 @@
+/* The receiver of one hearing room, told in sentences: `make host` builds and runs it.
+ * What it must print stands in room.expected, which was written by hand from document 01. */
+#include <inttypes.h>
+#include <stdio.h>
+
+#include "lumbixet.h"
+
+#define ROOM 64
+
+static const char *const refusals[] = {
+    [LUMBIXET_INCONSISTENT] = "the record is not consistent",
+    [LUMBIXET_ENDS] = "the bytes end inside a field",
+    [LUMBIXET_OTHER_TYPE] = "the frame type is another one",
+    [LUMBIXET_DELAY] = "a delay breaks the delay rule",
+    [LUMBIXET_TOO_LARGE] = "a number is too large",
+    [LUMBIXET_REPEATED] = "this packet was received before",
+    [LUMBIXET_BELOW_WINDOW] = "this packet lies below the window",
+    [LUMBIXET_NOTHING_YET] = "nothing has been received yet",
+    [LUMBIXET_NO_ROOM] = "the output does not fit the room",
+    [LUMBIXET_COUNT_OR_TYPE] = "a metric count, metric type or entry count breaks its rule",
+    [LUMBIXET_SUM] = "the total differs from its parts",
+    [LUMBIXET_ENTRY] = "an entry breaks its rule",
+    [LUMBIXET_BYTES_BEHIND] = "bytes remain after the report",
+    [LUMBIXET_BELOW_ZERO] = "a range goes below number 0",
+};
+
+static const char *const causes[] = {
+    [LUMBIXET_IMMEDIATE] = "the sender asked for it",
+    [LUMBIXET_COUNT] = "more packets came than the threshold",
+    [LUMBIXET_ORDER] = "packets are missing or came out of order",
+    [LUMBIXET_CONGESTION] = "a run of congestion marks began",
+    [LUMBIXET_TIMER] = "the delay in force has passed",
+};
+
+static void show(const uint8_t *bytes, uint64_t length)
+{
+    for (uint64_t i = 0; i < length; i++)
+        printf(" %02x", bytes[i]);
+    puts(".");
+}
+
+static void refused(uint64_t result)
+{
+    printf(" Refused with %" PRIu64 ": %s.\n", result, refusals[result]);
+}
+
+/* Ends the sentence on a call with what came of it, and hands the next record on. */
+static lumbixet_receiver told(lumbixet_answer answer)
+{
+    if (answer.result == LUMBIXET_STALE)
+        puts(" It is stale: nothing changed.");
+    else if (answer.result != LUMBIXET_ACCEPTED)
+        refused(answer.result);
+    else if (answer.next.cause == LUMBIXET_NOT_DUE)
+        puts(" Nothing is due.");
+    else
+        printf(" An acknowledgment is due: %s.\n", causes[answer.next.cause]);
+    return answer.next;
+}
+
+static void rules(lumbixet_receiver receiver)
+{
+    printf("An acknowledgment is due for more than %" PRIu64 " packets, ", receiver.threshold);
+    if (receiver.reordering == 0)
+        printf("never for a gap");
+    else
+        printf("for a gap that reaches %" PRIu64, receiver.reordering);
+    printf(", or after %" PRIu64 " microseconds.\n", receiver.delay);
+}
+
+static lumbixet_receiver packet(lumbixet_receiver receiver, uint64_t number, uint64_t time, bool marked)
+{
+    printf("At %" PRIu64 " packet %" PRIu64 " arrives%s.", time, number, marked ? " with a congestion mark" : "");
+    return told(lumbixet_packet(receiver, number, time, true, marked));
+}
+
+static lumbixet_receiver timer(lumbixet_receiver receiver, uint64_t time)
+{
+    printf("At %" PRIu64 " the timer is looked at.", time);
+    return told(lumbixet_timer(receiver, time));
+}
+
+/* Writes an acknowledgment, and reads it back as the sender will. */
+static lumbixet_receiver acknowledge(lumbixet_receiver receiver, uint64_t time, size_t room)
+{
+    uint8_t buffer[ROOM];
+    uint64_t ranges[ROOM];
+    lumbixet_wrote wrote = lumbixet_write(receiver, time, buffer, room);
+    printf("At %" PRIu64 " an acknowledgment is written into %zu bytes", time, room);
+    if (wrote.result != LUMBIXET_ACCEPTED) {
+        putchar('.');
+        refused(wrote.result);
+        return wrote.next;
+    }
+    putchar(':');
+    show(buffer, wrote.length);
+    lumbixet_ack ack = lumbixet_read_ack(buffer, wrote.length, ranges, ROOM);
+    printf("  Read back, it says %" PRIu64 " microseconds after packet %" PRIu64 ":", 8 * ack.delay, ack.largest);
+    for (uint64_t i = 0; i < ack.ranges; i++)
+        printf(" %" PRIu64 " to %" PRIu64 " arrived%c", ranges[2 * i], ranges[2 * i + 1], i + 1 < ack.ranges ? ',' : '.');
+    putchar('\n');
+    return wrote.next;
+}
+
+/* An ACK_FREQUENCY frame: written by the sender, read here, heard, and heard once more. */
+static lumbixet_receiver other_rules(lumbixet_receiver receiver)
+{
+    uint8_t buffer[ROOM];
+    lumbixet_put put = lumbixet_put_frequency(buffer, ROOM, 5, 2, 5000, 0);
+    printf("The sender's frame is");
+    show(buffer, put.next);
+    lumbixet_frequency f = lumbixet_read_frequency(buffer, put.next);
+    printf("  Read, it has sequence %" PRIu64 ", threshold %" PRIu64 ", delay %" PRIu64 " and reordering threshold %" PRIu64 ".\n",
+           f.sequence, f.threshold, f.delay, f.reordering);
+    printf("The frame is heard.");
+    receiver = told(lumbixet_threshold(receiver, f.sequence, f.threshold, f.delay, f.reordering));
+    rules(receiver);
+    printf("The frame is heard.");
+    receiver = told(lumbixet_threshold(receiver, f.sequence, f.threshold, f.delay, f.reordering));
+    printf("A frame with sequence 6 asks for a delay of 16384000.");
+    return told(lumbixet_threshold(receiver, 6, 2, 16384000, 0));
+}
+
+static lumbixet_receiver asked(lumbixet_receiver receiver)
+{
+    uint8_t buffer[ROOM];
+    lumbixet_put put = lumbixet_put_immediate(buffer, ROOM);
+    lumbixet_immediate_frame frame = lumbixet_read_immediate(buffer, put.next);
+    printf("The sender's frame is");
+    for (uint64_t i = 0; i < frame.used; i++)
+        printf(" %02x.", buffer[i]);
+    return told(lumbixet_immediate(receiver));
+}
+
+/* Reads a report, and says what became of each object that it has an entry for. */
+static void read_report(const uint8_t *bytes, size_t length)
+{
+    lumbixet_report report = lumbixet_read_report(bytes, length);
+    if (report.result != LUMBIXET_ACCEPTED) {
+        refused(report.result);
+        return;
+    }
+    lumbixet_header h = report.header;
+    printf("Read back: %" PRIu64 " objects, %" PRIu64 " received, %" PRIu64 " late, %" PRIu64 " lost, average deviation %" PRId64 " microseconds.\n",
+           h.total, h.received, h.late, h.lost, h.average);
+    lumbixet_entries part = lumbixet_find_entries(bytes, length);
+    for (uint64_t i = 0; i < h.entries; i++) {
+        lumbixet_entry entry = lumbixet_read_entry(bytes + part.start, part.length, i);
+        printf("  Object %" PRIu64 " ", entry.object);
+        if (entry.status == LUMBIXET_NOT_RECEIVED)
+            puts("did not come.");
+        else
+            printf("came %s, %" PRIu64 " microseconds before the report.\n",
+                   entry.status == LUMBIXET_LATE ? "late" : entry.status == LUMBIXET_PARTIAL ? "in part" : "in time", entry.age);
+    }
+}
+
+static void report(void)
+{
+    /* object number (8 bytes, high first), status, three zeros, age (4 bytes, high first) */
+    static const uint8_t records[] = {
+        0, 0, 0, 0, 0, 0, 0, 100, LUMBIXET_RECEIVED, 0, 0, 0, 0, 0, 0x9c, 0x40,
+        0, 0, 0, 0, 0, 0, 0, 101, LUMBIXET_LATE, 0, 0, 0, 0, 0, 0x4e, 0x20,
+        0, 0, 0, 0, 0, 0, 0, 102, LUMBIXET_NOT_RECEIVED, 0, 0, 0, 0, 0, 0, 0,
+    };
+    lumbixet_header header = {.timestamp = 1000000, .interval = 100000, .total = 3, .received = 1, .late = 1, .lost = 1, .average = -2};
+    uint8_t buffer[47];
+    lumbixet_written written = lumbixet_write_report(buffer, sizeof buffer, header, records, sizeof records);
+    printf("A report of %" PRIu64 " objects is written into %zu bytes. It takes %" PRIu64 ", and keeps the last %" PRIu64 " of 3 records.\n",
+           header.total, sizeof buffer, written.next, written.kept);
+    printf("  Its numbers are");
+    show(buffer, lumbixet_find_entries(buffer, written.next).start);
+    read_report(buffer, written.next);
+    printf("The report without its last byte.");
+    read_report(buffer, written.next - 1);
+}
+
+int main(void)
+{
+    puts("A packet is lost");
+    lumbixet_receiver receiver = lumbixet_open(1000, 3, 25, 1000).next;
+    rules(receiver);
+    receiver = packet(receiver, 0, 1000, false);
+    receiver = packet(receiver, 1, 2000, false);
+    receiver = packet(receiver, 3, 4000, false);
+    receiver = packet(receiver, 4, 5000, false);
+    receiver = packet(receiver, 5, 6000, false);
+    receiver = packet(receiver, 5, 6100, false);
+    receiver = acknowledge(receiver, 6400, ROOM);
+
+    puts("\nThe sender asks for other rules");
+    receiver = other_rules(receiver);
+
+    puts("\nThe timer runs");
+    receiver = packet(receiver, 6, 20000, false);
+    receiver = timer(receiver, 24999);
+    receiver = timer(receiver, 25000);
+    receiver = acknowledge(receiver, 25000, ROOM);
+
+    puts("\nThe lost packet comes after all");
+    receiver = packet(receiver, 2, 26000, false);
+    receiver = packet(receiver, 7, 27000, false);
+    receiver = packet(receiver, 8, 28000, false);
+    receiver = acknowledge(receiver, 28000, ROOM);
+
+    puts("\nThe network is congested, and the sender asks");
+    receiver = packet(receiver, 9, 29000, true);
+    receiver = acknowledge(receiver, 29000, 4);
+    receiver = acknowledge(receiver, 29000, 5);
+    asked(receiver);
+
+    puts("\nThe report");
+    report();
+    return 0;
+}

@@ -1,0 +1,236 @@
+/* Lumbixet: the receiver of a live hearing, for hosts in C and C++.
+ *
+ * Every call takes any bytes and any numbers, ends, and keeps nothing between calls. `result` is 0 for
+ * accepted, or the refusal number of document 01 (LUMBIXET_..., below). A refused call hands the record
+ * back as it came and writes no element of a lent buffer; what else it answers is then 0.
+ *
+ * A pointer with its length names that many elements, all readable, and writable where the pointer is not
+ * const; with length 0 the pointer must still not be NULL. Two lent parts of one call must not overlap.
+ * A bool holds 0 or 1: C gives any other byte no meaning, and neither does Lumbixet. Every other byte of
+ * a record may hold anything: a record that is not consistent is refused with 1.
+ */
+#ifndef LUMBIXET_H
+#define LUMBIXET_H
+
+#include <stdbool.h>
+#include <stddef.h>
+#include <stdint.h>
+
+#ifdef __cplusplus
+extern "C" {
+#endif
+
+/* The largest number, threshold and time: 2^62 - 1. */
+#define LUMBIXET_LARGEST UINT64_C(4611686018427387903)
+
+/* What `result` says. */
+enum {
+    LUMBIXET_ACCEPTED = 0,
+    LUMBIXET_INCONSISTENT = 1,  /* the record handed in is not consistent */
+    LUMBIXET_ENDS = 2,          /* the bytes end inside a field */
+    LUMBIXET_OTHER_TYPE = 3,    /* the frame type is another one, or not in shortest form */
+    LUMBIXET_DELAY = 4,         /* a delay breaks the delay rule */
+    LUMBIXET_TOO_LARGE = 5,     /* a number, threshold or time is above 2^62 - 1, or a signed value outside its range */
+    LUMBIXET_REPEATED = 6,      /* the packet number lies in the window and was received */
+    LUMBIXET_BELOW_WINDOW = 7,  /* the packet number lies below the window */
+    LUMBIXET_NOTHING_YET = 8,   /* a write or IMMEDIATE_ACK before anything was received */
+    LUMBIXET_NO_ROOM = 9,       /* the smallest permitted output does not fit the lent buffer */
+    LUMBIXET_COUNT_OR_TYPE = 10,/* a report's metric count, metric types or entry count break their rule */
+    LUMBIXET_SUM = 11,          /* total differs from received + late + lost */
+    LUMBIXET_ENTRY = 12,        /* an entry record breaks its rule */
+    LUMBIXET_BYTES_BEHIND = 13, /* bytes remain after a report */
+    LUMBIXET_BELOW_ZERO = 14,   /* an ACK range goes below number 0 */
+    LUMBIXET_STALE = 255        /* of lumbixet_threshold alone: an obsolete frame; nothing changed */
+};
+
+/* Why an acknowledgment is due: the record's `cause`. */
+enum {
+    LUMBIXET_NOT_DUE = 0,
+    LUMBIXET_IMMEDIATE = 1,  /* the sender asked by IMMEDIATE_ACK */
+    LUMBIXET_COUNT = 2,      /* more ack-eliciting packets than the threshold */
+    LUMBIXET_ORDER = 3,      /* packets are missing or came out of order */
+    LUMBIXET_CONGESTION = 4, /* a run of CE marks began */
+    LUMBIXET_TIMER = 5       /* the delay in force has passed */
+};
+
+/* What became of a media object: an entry's `status`. */
+enum {
+    LUMBIXET_RECEIVED = 0,
+    LUMBIXET_LATE = 1,
+    LUMBIXET_NOT_RECEIVED = 2,
+    LUMBIXET_PARTIAL = 3
+};
+
+/* ---- numbers on the wire */
+
+/* A number that was read, and the place after it. */
+typedef struct {
+    uint64_t result; /* 0 or 2 */
+    uint64_t value;
+    uint64_t next;
+} lumbixet_number;
+
+/* What a writer of numbers and frames answers: the place after what was written. */
+typedef struct {
+    uint64_t result; /* 0, 5 or 9 */
+    uint64_t next;
+} lumbixet_put;
+
+/* Reads the number that starts at place `at`; longer forms than needed are accepted. */
+lumbixet_number lumbixet_read_number(const uint8_t *bytes, size_t length, size_t at);
+
+/* Writes a number at place `at` in its shortest form. */
+lumbixet_put lumbixet_put_number(uint8_t *buffer, size_t length, size_t at, uint64_t value);
+
+/* ---- frames; a reader starts at the first byte, ignores what follows the frame, and `used` is the frame's length */
+
+/* The four values of an ACK_FREQUENCY frame. */
+typedef struct {
+    uint64_t result; /* 0, 2 or 3 */
+    uint64_t sequence;
+    uint64_t threshold;
+    uint64_t delay; /* microseconds; the codec does not judge it */
+    uint64_t reordering;
+    uint64_t used;
+} lumbixet_frequency;
+
+/* What reading an IMMEDIATE_ACK frame finds. */
+typedef struct {
+    uint64_t result; /* 0, 2 or 3 */
+    uint64_t used;
+} lumbixet_immediate_frame;
+
+/* An ACK frame's numbers; its ranges stand in the lent slice. */
+typedef struct {
+    uint64_t result; /* 0, 2, 3, 14 or 9 */
+    uint64_t largest;
+    uint64_t delay;  /* as on the wire, in eights of a microsecond */
+    uint64_t ranges; /* how many ranges were written to the lent slice */
+    uint64_t used;
+} lumbixet_ack;
+
+lumbixet_frequency lumbixet_read_frequency(const uint8_t *bytes, size_t length);
+lumbixet_immediate_frame lumbixet_read_immediate(const uint8_t *bytes, size_t length);
+
+/* Reads an ACK frame of type 02. `ranges` gets smallest and largest of each range, newest first; `room` counts numbers. */
+lumbixet_ack lumbixet_read_ack(const uint8_t *bytes, size_t length, uint64_t *ranges, size_t room);
+
+lumbixet_put lumbixet_put_frequency(uint8_t *buffer, size_t length, uint64_t sequence, uint64_t threshold,
+                                    uint64_t delay, uint64_t reordering);
+lumbixet_put lumbixet_put_immediate(uint8_t *buffer, size_t length);
+
+/* ---- the receiver */
+
+/* The record of one receiver. What may be absent is kept as an end, one past the number, with 0 for none. */
+typedef struct {
+    uint64_t window[16];        /* which of the last 1,024 numbers were received: bit 1023 is the largest */
+    uint64_t end;               /* the end of the largest received number */
+    uint64_t arrived;           /* when that arrived, in microseconds */
+    uint64_t pending_count;     /* ack-eliciting packets since the last written ACK */
+    uint64_t pending_end;       /* the end of the largest of their numbers */
+    uint64_t pending_first;     /* when the first of them arrived, in microseconds */
+    uint64_t threshold;         /* the ack-eliciting threshold in force */
+    uint64_t reordering;        /* the reordering threshold in force */
+    uint64_t delay;             /* the delay in force, in microseconds */
+    uint64_t sequence;          /* the end of the largest ACK_FREQUENCY sequence processed */
+    uint64_t maximum;           /* the own maximum delay, in milliseconds */
+    uint64_t minimum;           /* the own minimum delay, in microseconds */
+    uint64_t acknowledged;      /* the end of the largest acknowledged number */
+    uint64_t highest;           /* the end of the highest ack-eliciting number */
+    bool marked;                /* the last accepted packet's CE mark */
+    uint64_t cause;             /* why an acknowledgment is due */
+} lumbixet_receiver;
+
+/* A call's result and the next record. */
+typedef struct {
+    uint64_t result;
+    lumbixet_receiver next;
+} lumbixet_answer;
+
+/* What the write call answers. */
+typedef struct {
+    uint64_t result; /* 0, 1, 5, 8 or 9 */
+    uint64_t length; /* how many bytes the ACK frame takes at the start of the buffer */
+    lumbixet_receiver next;
+} lumbixet_wrote;
+
+/* Opens a receiver: T, R, the own maximum delay in milliseconds, the own minimum in microseconds. 5, then 4; a refused
+ * opening hands back the usual record (1, 1, 25 ms, 1,000 us). */
+lumbixet_answer lumbixet_open(uint64_t threshold, uint64_t reordering, uint64_t maximum_ms, uint64_t minimum_us);
+
+/* A packet arrives. 1, 5, then 6 or 7. */
+lumbixet_answer lumbixet_packet(lumbixet_receiver receiver, uint64_t number, uint64_t time_us, bool eliciting, bool marked);
+
+/* The timer is looked at. 1, 5. */
+lumbixet_answer lumbixet_timer(lumbixet_receiver receiver, uint64_t time_us);
+
+/* An ACK_FREQUENCY frame arrives. 1, 5, 4, then LUMBIXET_STALE. */
+lumbixet_answer lumbixet_threshold(lumbixet_receiver receiver, uint64_t sequence, uint64_t threshold, uint64_t delay_us,
+                                   uint64_t reordering);
+
+/* An IMMEDIATE_ACK frame arrives. 1, 8. */
+lumbixet_answer lumbixet_immediate(lumbixet_receiver receiver);
+
+/* Writes an ACK frame at the start of the buffer, with as many newest ranges as fit. 1, 5, 8, 9. */
+lumbixet_wrote lumbixet_write(lumbixet_receiver receiver, uint64_t time_us, uint8_t *buffer, size_t length);
+
+/* ---- the feedback report */
+
+/* The summary of a report, and its metrics. */
+typedef struct {
+    uint64_t timestamp;  /* microseconds */
+    uint64_t interval;   /* microseconds */
+    uint64_t total;      /* received + late + lost */
+    uint64_t received;
+    uint64_t late;
+    uint64_t lost;
+    int64_t average;     /* from -2^61 to 2^61 - 1 */
+    uint64_t metrics;    /* how many metrics there are, at most 4 */
+    uint64_t kinds[4];   /* strictly rising, from 0x02, 0x04, 0x10, 0x12 */
+    uint64_t values[4];
+    uint64_t entries;    /* how many entries follow; the writer takes no heed of it */
+} lumbixet_header;
+
+/* What reading a report finds; the header is all 0 where it is refused. */
+typedef struct {
+    uint64_t result; /* 0, 2, 10, 11, 12 or 13 */
+    lumbixet_header header;
+} lumbixet_report;
+
+/* Where the entries of a report stand in the caller's own bytes; a refused report has none: start is then its length. */
+typedef struct {
+    uint64_t start;
+    uint64_t length; /* in bytes: 16 for each entry */
+} lumbixet_entries;
+
+/* One entry. */
+typedef struct {
+    uint64_t result; /* 0, 2 or 12 */
+    uint64_t object;
+    uint64_t status;
+    uint64_t age; /* microseconds at the timestamp */
+} lumbixet_entry;
+
+/* What the writer of reports answers. */
+typedef struct {
+    uint64_t result; /* 0, 5, 11, 10, 12 or 9 */
+    uint64_t next;   /* the length of the report */
+    uint64_t kept;   /* how many of the last records were written, at most 50 */
+} lumbixet_written;
+
+lumbixet_report lumbixet_read_report(const uint8_t *bytes, size_t length);
+lumbixet_entries lumbixet_find_entries(const uint8_t *bytes, size_t length);
+
+/* Reads entry `index` of the part that lumbixet_find_entries named: pass bytes + start and length. */
+lumbixet_entry lumbixet_read_entry(const uint8_t *entries, size_t length, size_t index);
+
+/* Writes a report at the start of the buffer: header, then the longest run of last records, at most 50, that fits.
+ * `records` are 0 to 256 records of 16 bytes: object number (8, high byte first), status, three zeros, age (4). */
+lumbixet_written lumbixet_write_report(uint8_t *buffer, size_t length, lumbixet_header header, const uint8_t *records,
+                                       size_t records_length);
+
+#ifdef __cplusplus
+}
+#endif
+
+#endif

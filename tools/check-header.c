@@ -1,0 +1,265 @@
+/* Holds include/lumbixet.h to the archive: sizes and places at compile time, and at run time every field
+ * of every struct by a value of its own, so that two fields of the header in the wrong order are seen.
+ * Every number that the header names is seen in an answer too. `make host` builds and runs it. */
+#include <inttypes.h>
+#include <stdio.h>
+#include <string.h>
+
+#include "lumbixet.h"
+
+#define SIZE(type, bytes) _Static_assert(sizeof(type) == (bytes), #type)
+#define AT(type, field, place) _Static_assert(offsetof(type, field) == (place), #type "." #field)
+
+SIZE(bool, 1);
+SIZE(size_t, 8);
+SIZE(lumbixet_number, 24);
+SIZE(lumbixet_put, 16);
+SIZE(lumbixet_frequency, 48);
+SIZE(lumbixet_immediate_frame, 16);
+SIZE(lumbixet_ack, 40);
+SIZE(lumbixet_receiver, 248);
+SIZE(lumbixet_answer, 256);
+SIZE(lumbixet_wrote, 264);
+SIZE(lumbixet_header, 136);
+SIZE(lumbixet_report, 144);
+SIZE(lumbixet_entries, 16);
+SIZE(lumbixet_entry, 32);
+SIZE(lumbixet_written, 24);
+
+AT(lumbixet_receiver, window, 0);
+AT(lumbixet_receiver, end, 128);
+AT(lumbixet_receiver, arrived, 136);
+AT(lumbixet_receiver, pending_count, 144);
+AT(lumbixet_receiver, pending_end, 152);
+AT(lumbixet_receiver, pending_first, 160);
+AT(lumbixet_receiver, threshold, 168);
+AT(lumbixet_receiver, reordering, 176);
+AT(lumbixet_receiver, delay, 184);
+AT(lumbixet_receiver, sequence, 192);
+AT(lumbixet_receiver, maximum, 200);
+AT(lumbixet_receiver, minimum, 208);
+AT(lumbixet_receiver, acknowledged, 216);
+AT(lumbixet_receiver, highest, 224);
+AT(lumbixet_receiver, marked, 232);
+AT(lumbixet_receiver, cause, 240);
+AT(lumbixet_answer, next, 8);
+AT(lumbixet_wrote, length, 8);
+AT(lumbixet_wrote, next, 16);
+AT(lumbixet_header, average, 48);
+AT(lumbixet_header, kinds, 64);
+AT(lumbixet_header, values, 96);
+AT(lumbixet_header, entries, 128);
+AT(lumbixet_report, header, 8);
+
+static int seen, faults;
+
+#define SAME(got, wanted) same(#got, (uint64_t)(got), (uint64_t)(wanted), __LINE__)
+
+static void same(const char *what, uint64_t got, uint64_t wanted, int line)
+{
+    seen++;
+    if (got == wanted)
+        return;
+    faults++;
+    printf("header: line %d: %s is %" PRIu64 ", not %" PRIu64 "\n", line, what, got, wanted);
+}
+
+static void same_bytes(const char *what, const void *got, const void *wanted, size_t length)
+{
+    seen++;
+    if (memcmp(got, wanted, length) == 0)
+        return;
+    faults++;
+    printf("header: %s are other bytes\n", what);
+}
+
+static void numbers(void)
+{
+    uint8_t buffer[8] = {0};
+    lumbixet_put put = lumbixet_put_number(buffer, sizeof buffer, 3, 15293);
+    SAME(put.result, LUMBIXET_ACCEPTED);
+    SAME(put.next, 5);
+    same_bytes("those of 15293", buffer, "\0\0\0\x7b\xbd\0\0\0", 8);
+    SAME(lumbixet_put_number(buffer, sizeof buffer, 3, LUMBIXET_LARGEST + 1).result, LUMBIXET_TOO_LARGE);
+    SAME(lumbixet_put_number(buffer, sizeof buffer, 0, LUMBIXET_LARGEST).next, 8);
+    SAME(lumbixet_put_number(buffer, sizeof buffer, 7, 15293).result, LUMBIXET_NO_ROOM);
+    lumbixet_number number = lumbixet_read_number((const uint8_t *)"\0\0\0\x7b\xbd", 5, 3);
+    SAME(number.result, LUMBIXET_ACCEPTED);
+    SAME(number.value, 15293);
+    SAME(number.next, 5);
+    SAME(lumbixet_read_number(buffer, sizeof buffer, 8).result, LUMBIXET_ENDS);
+}
+
+static void frames(void)
+{
+    static const uint8_t asked[] = {0x40, 0xaf, 0x05, 0x0a, 0x80, 0x00, 0x61, 0xa8, 0x03};
+    static const uint8_t ranged[] = {0x02, 0x05, 0x32, 0x01, 0x02, 0x00, 0x01};
+    static const uint8_t longer[] = {0x40, 0x1f};
+    static const uint8_t below[] = {0x02, 0x05, 0x00, 0x01, 0x04, 0x02};
+    uint8_t buffer[9];
+    lumbixet_put put = lumbixet_put_frequency(buffer, sizeof buffer, 5, 10, 25000, 3);
+    SAME(put.result, LUMBIXET_ACCEPTED);
+    SAME(put.next, 9);
+    same_bytes("those of ACK_FREQUENCY", buffer, asked, 9);
+    lumbixet_frequency frequency = lumbixet_read_frequency(asked, sizeof asked);
+    SAME(frequency.result, LUMBIXET_ACCEPTED);
+    SAME(frequency.sequence, 5);
+    SAME(frequency.threshold, 10);
+    SAME(frequency.delay, 25000);
+    SAME(frequency.reordering, 3);
+    SAME(frequency.used, 9);
+
+    SAME(lumbixet_put_immediate(buffer, sizeof buffer).next, 1);
+    lumbixet_immediate_frame immediate = lumbixet_read_immediate(buffer, sizeof buffer);
+    SAME(immediate.result, LUMBIXET_ACCEPTED);
+    SAME(immediate.used, 1);
+    SAME(lumbixet_read_immediate(longer, sizeof longer).result, LUMBIXET_OTHER_TYPE);
+
+    uint64_t ranges[6] = {90, 91, 92, 93, 94, 95};
+    lumbixet_ack ack = lumbixet_read_ack(ranged, sizeof ranged, ranges, 6);
+    SAME(ack.result, LUMBIXET_ACCEPTED);
+    SAME(ack.largest, 5);
+    SAME(ack.delay, 50);
+    SAME(ack.ranges, 2);
+    SAME(ack.used, 7);
+    same_bytes("those of the ranges", ranges, (uint64_t[]){3, 5, 0, 1, 94, 95}, sizeof ranges);
+    SAME(lumbixet_read_ack(below, sizeof below, ranges, 6).result, LUMBIXET_BELOW_ZERO);
+    SAME(lumbixet_read_ack(ranged, sizeof ranged, ranges, 3).result, LUMBIXET_NO_ROOM);
+}
+
+/* A number in each word of the window. */
+static void window(void)
+{
+    lumbixet_receiver receiver = lumbixet_packet(lumbixet_open(1, 1, 25, 1000).next, 1023, 0, false, false).next;
+    for (uint64_t i = 0; i < 16; i++)
+        receiver = lumbixet_packet(receiver, 65 * i, 0, false, false).next;
+    for (uint64_t i = 0; i < 16; i++)
+        SAME(receiver.window[i], (UINT64_C(1) << i) + (i == 15 ? UINT64_C(1) << 63 : 0));
+}
+
+static lumbixet_receiver next(lumbixet_answer answer)
+{
+    SAME(answer.result, LUMBIXET_ACCEPTED);
+    return answer.next;
+}
+
+/* Each field of the record gets a value that no other field has. */
+static void record(void)
+{
+    lumbixet_receiver r = next(lumbixet_open(11, 12, 60, 14));
+    SAME(r.threshold, 11);
+    SAME(r.reordering, 12);
+    SAME(r.delay, 60000);
+    r = next(lumbixet_packet(r, 5, 777, true, false));
+    r = next(lumbixet_packet(r, 9, 778, false, false));
+    uint8_t buffer[8];
+    lumbixet_wrote wrote = lumbixet_write(r, 778, buffer, sizeof buffer);
+    SAME(wrote.result, LUMBIXET_ACCEPTED);
+    SAME(wrote.length, 7);
+    same_bytes("those of ACK", buffer, "\x02\x09\x00\x01\x00\x02\x00", 7);
+    r = next(lumbixet_packet(wrote.next, 3, 888, true, false));
+    r = next(lumbixet_packet(r, 2, 889, true, false));
+    r = next(lumbixet_packet(r, 20, 999, false, true));
+    r = next(lumbixet_threshold(r, 77, 101, 50000, 102));
+    r = next(lumbixet_timer(r, 50888));
+    SAME(r.end, 21);
+    SAME(r.arrived, 999);
+    SAME(r.pending_count, 2);
+    SAME(r.pending_end, 4);
+    SAME(r.pending_first, 888);
+    SAME(r.threshold, 101);
+    SAME(r.reordering, 102);
+    SAME(r.delay, 50000);
+    SAME(r.sequence, 78);
+    SAME(r.maximum, 60);
+    SAME(r.minimum, 14);
+    SAME(r.acknowledged, 10);
+    SAME(r.highest, 6);
+    SAME(r.marked, true);
+    SAME(r.cause, LUMBIXET_TIMER);
+
+    lumbixet_answer stale = lumbixet_threshold(r, 77, 1, 50000, 1);
+    SAME(stale.result, LUMBIXET_STALE);
+    SAME(stale.next.threshold, 101);
+    SAME(lumbixet_packet(r, 3, 0, true, false).result, LUMBIXET_REPEATED);
+    SAME(lumbixet_write(r, 0, buffer, 4).result, LUMBIXET_NO_ROOM);
+    r.cause = 6;
+    SAME(lumbixet_timer(r, 0).result, LUMBIXET_INCONSISTENT);
+}
+
+static void causes(void)
+{
+    lumbixet_receiver r = next(lumbixet_open(1, 1, 25, 1000));
+    SAME(r.cause, LUMBIXET_NOT_DUE);
+    SAME(lumbixet_immediate(r).result, LUMBIXET_NOTHING_YET);
+    SAME(lumbixet_open(1, 1, 16384, 1000).result, LUMBIXET_DELAY);
+    SAME(lumbixet_packet(r, 0, 0, true, true).next.cause, LUMBIXET_CONGESTION);
+    SAME(lumbixet_packet(r, 1, 0, true, false).next.cause, LUMBIXET_ORDER);
+    r = next(lumbixet_packet(r, 0, 0, true, false));
+    SAME(lumbixet_packet(r, 1, 0, true, false).next.cause, LUMBIXET_COUNT);
+    SAME(lumbixet_immediate(r).next.cause, LUMBIXET_IMMEDIATE);
+    r = next(lumbixet_packet(r, 1024, 0, false, false));
+    SAME(lumbixet_packet(r, 0, 0, true, false).result, LUMBIXET_BELOW_WINDOW);
+}
+
+static void reports(void)
+{
+    static const uint8_t expected[] = {
+        0x43, 0xe9, 0x43, 0xea, 60, 10, 20, 30, 13, 4, 0x02, 51, 0x04, 52, 0x10, 53, 0x12, 54, 4,
+        0, 0, 0, 0, 0, 0, 0, 7, 0, 0, 0, 0, 0, 0, 0, 9,
+        0, 0, 0, 0, 0, 0, 0, 8, 1, 0, 0, 0, 0, 0, 1, 0,
+        0, 0, 0, 0, 0, 0, 0, 9, 2, 0, 0, 0, 0, 0, 0, 0,
+        0, 0, 0, 0, 0, 0, 0, 10, 3, 0, 0, 0, 0, 0, 0, 9,
+    };
+    const uint8_t *records = expected + 19;
+    lumbixet_header header = {
+        .timestamp = 1001, .interval = 1002, .total = 60, .received = 10, .late = 20, .lost = 30, .average = -7,
+        .metrics = 4, .kinds = {0x02, 0x04, 0x10, 0x12}, .values = {51, 52, 53, 54}, .entries = 99,
+    };
+    uint8_t buffer[sizeof expected];
+    lumbixet_written written = lumbixet_write_report(buffer, sizeof buffer, header, records, 64);
+    SAME(written.result, LUMBIXET_ACCEPTED);
+    SAME(written.next, 83);
+    SAME(written.kept, 4);
+    same_bytes("those of the report", buffer, expected, sizeof expected);
+
+    lumbixet_report report = lumbixet_read_report(expected, sizeof expected);
+    header.entries = 4;
+    SAME(report.result, LUMBIXET_ACCEPTED);
+    same_bytes("those of the header", &report.header, &header, sizeof header);
+    lumbixet_entries part = lumbixet_find_entries(expected, sizeof expected);
+    SAME(part.start, 19);
+    SAME(part.length, 64);
+    lumbixet_entry entry = lumbixet_read_entry(expected + part.start, part.length, 1);
+    SAME(entry.result, LUMBIXET_ACCEPTED);
+    SAME(entry.object, 8);
+    SAME(entry.status, LUMBIXET_LATE);
+    SAME(entry.age, 256);
+    SAME(lumbixet_read_entry(records, 64, 0).status, LUMBIXET_RECEIVED);
+    SAME(lumbixet_read_entry(records, 64, 2).status, LUMBIXET_NOT_RECEIVED);
+    SAME(lumbixet_read_entry(records, 64, 3).status, LUMBIXET_PARTIAL);
+    SAME(lumbixet_read_entry(records, 64, 4).result, LUMBIXET_ENDS);
+
+    SAME(lumbixet_read_report(expected, sizeof expected - 1).result, LUMBIXET_ENDS);
+    SAME(lumbixet_find_entries(expected, sizeof expected - 1).start, 82);
+    SAME(lumbixet_write_report(buffer, sizeof buffer, header, records, 63).result, LUMBIXET_ENTRY);
+    header.metrics = 5;
+    SAME(lumbixet_write_report(buffer, sizeof buffer, header, records, 64).result, LUMBIXET_COUNT_OR_TYPE);
+    header.lost = 31;
+    SAME(lumbixet_write_report(buffer, sizeof buffer, header, records, 64).result, LUMBIXET_SUM);
+    static const uint8_t behind[] = {0x80, 0x0f, 0x42, 0x40, 0x80, 0x01, 0x86, 0xa0, 3, 1, 1, 1, 3, 0, 0, 0};
+    SAME(lumbixet_read_report(behind, sizeof behind).result, LUMBIXET_BYTES_BEHIND);
+}
+
+int main(void)
+{
+    numbers();
+    frames();
+    window();
+    record();
+    causes();
+    reports();
+    if (faults == 0)
+        printf("header: %d values of the archive are as include/lumbixet.h says\n", seen);
+    return faults != 0;
+}
