@@ -1,0 +1,153 @@
+/* Makes the inputs from fixed seeds. Records and frames come from the plain side; compare.c holds the archive to it. */
+#include "inputs.h"
+
+#include <stdio.h>
+#include <stdlib.h>
+
+#include "plain.h"
+
+struct numbers numbers;
+struct acks acks[ACK_KINDS];
+struct traffic traffic[PATTERNS][2];
+struct reports reports;
+
+uint64_t pick(uint64_t *state)
+{
+    uint64_t z = *state += UINT64_C(0x9e3779b97f4a7c15);
+    z = (z ^ z >> 30) * UINT64_C(0xbf58476d1ce4e5b9);
+    z = (z ^ z >> 27) * UINT64_C(0x94d049bb133111eb);
+    return z ^ z >> 31;
+}
+
+static void expect(bool holds, const char *what)
+{
+    if (holds)
+        return;
+    fprintf(stderr, "bench: an input is not what it should be: %s\n", what);
+    exit(1);
+}
+
+/* The four lengths equally often, in random order. */
+static void make_numbers(void)
+{
+    static const uint64_t least[4] = {0, 64, 16384, 1073741824};
+    static const uint64_t most[4] = {63, 16383, 1073741823, LUMBIXET_LARGEST};
+    uint64_t state = 1;
+    for (size_t i = 0; i < NUMBERS; i++) {
+        if (i % PART == 0)
+            numbers.starts[i / PART] = numbers.length;
+        size_t code = pick(&state) % 4;
+        numbers.values[i] = least[code] + pick(&state) % (most[code] - least[code] + 1);
+        lumbixet_put put = plain_put_number(numbers.wire, sizeof numbers.wire, numbers.length, numbers.values[i]);
+        expect(put.result == 0, "a number");
+        numbers.length = put.next;
+    }
+}
+
+/* One gap of 1 to 3 numbers at the start of each of `ranges` equal parts of the window. */
+static void make_acks(struct acks *made, uint64_t ranges, uint64_t seed)
+{
+    uint64_t state = seed;
+    uint64_t part = 1024 / ranges;
+    made->ranges = ranges;
+    made->time = arrival(2 * 1024) + 1000;
+    for (size_t v = 0; v < VARIANTS; v++) {
+        lumbixet_receiver record = plain_open(1000, 3, 25, 1000).next;
+        uint64_t gap = 0;
+        for (uint64_t n = 0; n < 2 * 1024; n++) {
+            if (n % part == 0)
+                gap = 1 + pick(&state) % 3;
+            if (n % part >= gap)
+                record = plain_packet(record, 1000000 * 1024 + n, arrival(n), true, false).next;
+        }
+        made->records[v] = record;
+        lumbixet_wrote wrote = plain_write(record, made->time, made->frames[v], FRAME_ROOM);
+        made->lengths[v] = wrote.length;
+        uint64_t pairs[128];
+        expect(wrote.result == 0, "an ACK frame");
+        expect(plain_read_ack(made->frames[v], wrote.length, pairs, 128).ranges == ranges, "a number of ranges");
+    }
+}
+
+/* The numbers of a pattern in their order of arrival. */
+static void make_pattern(uint64_t *sent, int pattern)
+{
+    uint64_t state = 3;
+    uint64_t number = 0;
+    for (size_t k = 0; k < WARM + PACKETS; k++) {
+        while (pattern == LOSS && pick(&state) % 100 < 2)
+            number++;
+        sent[k] = pattern == SWAPPED ? number ^ 1 : number;
+        number++;
+    }
+}
+
+static void make_traffic(struct traffic *made, int pattern, uint64_t reordering)
+{
+    made->reordering = reordering;
+    make_pattern(made->numbers, pattern);
+    lumbixet_receiver record = plain_open(1000, reordering, 25, 1000).next;
+    uint8_t frame[FRAME_ROOM];
+    for (size_t k = 0; k < WARM; k++) {
+        lumbixet_answer answer = plain_packet(record, made->numbers[k], arrival(k), true, false);
+        expect(answer.result == 0, "a packet");
+        record = answer.next;
+        if (k % BLOCK == BLOCK - 1)
+            record = plain_write(record, arrival(k), frame, sizeof frame).next;
+    }
+    made->start = record;
+}
+
+/* One record: the object number, received three times of four, else late, lost or partial, and an age. */
+static void make_record(uint8_t *record, uint64_t object, uint64_t *state)
+{
+    uint64_t status = pick(state) % 4 ? LUMBIXET_RECEIVED : 1 + pick(state) % 3;
+    uint64_t age = status == LUMBIXET_NOT_RECEIVED ? 0 : pick(state) % 200000;
+    for (int i = 0; i < 8; i++)
+        record[i] = (uint8_t)(object >> (56 - 8 * i));
+    record[8] = (uint8_t)status;
+    record[9] = record[10] = record[11] = 0;
+    for (int i = 0; i < 4; i++)
+        record[12 + i] = (uint8_t)(age >> (24 - 8 * i));
+}
+
+static void make_reports(void)
+{
+    uint64_t state = 4;
+    for (size_t v = 0; v < VARIANTS; v++) {
+        lumbixet_header *h = &reports.headers[v];
+        *h = (lumbixet_header){.timestamp = pick(&state) % 100000000,
+                               .interval = 100000,
+                               .received = pick(&state) % 100,
+                               .late = pick(&state) % 10,
+                               .lost = pick(&state) % 10,
+                               .average = (int64_t)(pick(&state) % 4000) - 2000,
+                               .metrics = 2,
+                               .kinds = {0x02, 0x10},
+                               .values = {pick(&state) % 100000, pick(&state) % 100},
+                               .entries = ENTRIES};
+        h->total = h->received + h->late + h->lost;
+        uint64_t object = pick(&state) % 1000000;
+        for (size_t i = 0; i < ENTRIES; i++) {
+            object += 1 + pick(&state) % 2;
+            make_record(reports.records[v] + 16 * i, object, &state);
+        }
+        lumbixet_written written =
+            plain_write_report(reports.bytes[v], FRAME_ROOM, *h, reports.records[v], sizeof reports.records[v]);
+        expect(written.result == 0 && written.kept == ENTRIES, "a report");
+        reports.lengths[v] = written.next;
+    }
+}
+
+void make_inputs(void)
+{
+    make_numbers();
+    make_acks(&acks[ONE_RANGE], 1, 5);
+    make_acks(&acks[EIGHT_RANGES], 8, 6);
+    make_acks(&acks[SIXTY_FOUR_RANGES], 64, 7);
+    for (int pattern = 0; pattern < PATTERNS; pattern++) {
+        make_traffic(&traffic[pattern][0], pattern, 1);
+        make_traffic(&traffic[pattern][1], pattern, 3);
+    }
+    make_reports();
+}

@@ -1,0 +1,72 @@
+/* What is timed and compared: made from fixed seeds, so that every run has the same. */
+#ifndef INPUTS_H
+#define INPUTS_H
+
+#include "lumbixet.h"
+
+enum {
+    PART = 4096,     /* numbers on the wire for one round */
+    PARTS = 32,
+    NUMBERS = PART * PARTS,
+    VARIANTS = 16,   /* different frames, records and reports for one row, in rotation */
+    FRAME_ROOM = 1200,
+    WARM = 2048,     /* packets before the first that is timed: the window is full by then */
+    PACKETS = 4096,
+    BLOCK = 32,      /* packets between two writes */
+    STEP_US = 100,   /* microseconds between two packets */
+    ENTRIES = 50
+};
+
+struct numbers {
+    uint64_t values[NUMBERS];
+    uint8_t wire[NUMBERS * 8];
+    size_t length;
+    size_t starts[PARTS]; /* where each part starts on the wire */
+};
+
+/* Records with so many ranges in the window, and their ACK frames. */
+struct acks {
+    uint64_t ranges;
+    lumbixet_receiver records[VARIANTS];
+    uint64_t time;
+    uint8_t frames[VARIANTS][FRAME_ROOM];
+    size_t lengths[VARIANTS];
+};
+
+/* Packets in their order of arrival, and the record when the first WARM of them have come. */
+struct traffic {
+    uint64_t reordering;
+    uint64_t numbers[WARM + PACKETS];
+    lumbixet_receiver start;
+};
+
+struct reports {
+    lumbixet_header headers[VARIANTS];
+    uint8_t records[VARIANTS][ENTRIES * 16];
+    uint8_t bytes[VARIANTS][FRAME_ROOM];
+    size_t lengths[VARIANTS];
+};
+
+enum { ONE_RANGE, EIGHT_RANGES, SIXTY_FOUR_RANGES, ACK_KINDS };
+enum { IN_ORDER, LOSS, SWAPPED, PATTERNS };
+
+extern struct numbers numbers;
+extern struct acks acks[ACK_KINDS];
+extern struct traffic traffic[PATTERNS][2]; /* R = 1, R = 3 */
+extern struct reports reports;
+
+void make_inputs(void);
+
+/* The next pseudo-random number (splitmix64). */
+uint64_t pick(uint64_t *state);
+
+/* When packet k arrives. */
+static inline uint64_t arrival(size_t k)
+{
+    return 1000000 + k * STEP_US;
+}
+
+/* Hands the record back and looks at nothing; it has the form of the timer call. */
+lumbixet_answer copy_record(lumbixet_receiver receiver, uint64_t time_us);
+
+#endif

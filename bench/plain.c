@@ -1,0 +1,123 @@
+/* What an engineer would write by hand from document 01, with the same answers and no proof: numbers and frames. */
+#include "plain_numbers.h"
+
+lumbixet_number plain_read_number(const uint8_t *bytes, size_t length, size_t at)
+{
+    struct reader reader = {bytes, length, at};
+    uint64_t value;
+    if (!take(&reader, &value))
+        return (lumbixet_number){.result = LUMBIXET_ENDS};
+    return (lumbixet_number){LUMBIXET_ACCEPTED, value, reader.at};
+}
+
+lumbixet_put plain_put_number(uint8_t *buffer, size_t length, size_t at, uint64_t value)
+{
+    if (value > LARGEST)
+        return (lumbixet_put){LUMBIXET_TOO_LARGE, 0};
+    if (at > length || length - at < width(value))
+        return (lumbixet_put){LUMBIXET_NO_ROOM, 0};
+    uint8_t *end = store(buffer + at, value);
+    return (lumbixet_put){LUMBIXET_ACCEPTED, (uint64_t)(end - buffer)};
+}
+
+/* ---- frames */
+
+/* Reads a frame type: 2 where it is cut, 3 where it is another one or not in shortest form. */
+static uint64_t take_type(struct reader *reader, uint64_t type)
+{
+    uint64_t found;
+    if (!take(reader, &found))
+        return LUMBIXET_ENDS;
+    if (found != type || reader->at != width(type))
+        return LUMBIXET_OTHER_TYPE;
+    return LUMBIXET_ACCEPTED;
+}
+
+lumbixet_frequency plain_read_frequency(const uint8_t *bytes, size_t length)
+{
+    struct reader reader = {bytes, length, 0};
+    uint64_t result = take_type(&reader, 0xaf);
+    if (result)
+        return (lumbixet_frequency){.result = result};
+    uint64_t sequence, threshold, delay, reordering;
+    if (!take(&reader, &sequence) || !take(&reader, &threshold) || !take(&reader, &delay) ||
+        !take(&reader, &reordering))
+        return (lumbixet_frequency){.result = LUMBIXET_ENDS};
+    return (lumbixet_frequency){LUMBIXET_ACCEPTED, sequence, threshold, delay, reordering, reader.at};
+}
+
+lumbixet_immediate_frame plain_read_immediate(const uint8_t *bytes, size_t length)
+{
+    struct reader reader = {bytes, length, 0};
+    uint64_t result = take_type(&reader, 0x1f);
+    return (lumbixet_immediate_frame){result, result ? 0 : reader.at};
+}
+
+/* Walks over all ranges and writes nothing: 2 and 14 come before the room is judged. */
+static uint64_t check_ranges(struct reader *reader, uint64_t largest, uint64_t count)
+{
+    for (;;) {
+        uint64_t size, gap;
+        if (!take(reader, &size))
+            return LUMBIXET_ENDS;
+        if (largest < size)
+            return LUMBIXET_BELOW_ZERO;
+        if (count-- == 0)
+            return LUMBIXET_ACCEPTED;
+        largest -= size;
+        if (!take(reader, &gap))
+            return LUMBIXET_ENDS;
+        if (largest < gap + 2)
+            return LUMBIXET_BELOW_ZERO;
+        largest -= gap + 2;
+    }
+}
+
+/* Writes the ranges that were checked, smallest before largest. */
+static void fill_ranges(const uint8_t *p, uint64_t largest, uint64_t count, uint64_t *ranges)
+{
+    for (;;) {
+        uint64_t smallest = largest - known(&p);
+        *ranges++ = smallest;
+        *ranges++ = largest;
+        if (count-- == 0)
+            return;
+        largest = smallest - known(&p) - 2;
+    }
+}
+
+lumbixet_ack plain_read_ack(const uint8_t *bytes, size_t length, uint64_t *ranges, size_t room)
+{
+    struct reader reader = {bytes, length, 0};
+    uint64_t result = take_type(&reader, 0x02);
+    if (result)
+        return (lumbixet_ack){.result = result};
+    uint64_t largest, delay, count;
+    if (!take(&reader, &largest) || !take(&reader, &delay) || !take(&reader, &count))
+        return (lumbixet_ack){.result = LUMBIXET_ENDS};
+    size_t start = reader.at;
+    result = check_ranges(&reader, largest, count);
+    if (result)
+        return (lumbixet_ack){.result = result};
+    if (room / 2 <= count)
+        return (lumbixet_ack){.result = LUMBIXET_NO_ROOM};
+    fill_ranges(bytes + start, largest, count, ranges);
+    return (lumbixet_ack){LUMBIXET_ACCEPTED, largest, delay, count + 1, reader.at};
+}
+
+lumbixet_put plain_put_frequency(uint8_t *buffer, size_t length, uint64_t sequence, uint64_t threshold, uint64_t delay,
+                                 uint64_t reordering)
+{
+    if (sequence > LARGEST || threshold > LARGEST || delay > LARGEST || reordering > LARGEST)
+        return (lumbixet_put){LUMBIXET_TOO_LARGE, 0};
+    if (length < 2 + width(sequence) + width(threshold) + width(delay) + width(reordering))
+        return (lumbixet_put){LUMBIXET_NO_ROOM, 0};
+    uint8_t *p = store(buffer, 0xaf);
+    p = store(store(store(store(p, sequence), threshold), delay), reordering);
+    return (lumbixet_put){LUMBIXET_ACCEPTED, (uint64_t)(p - buffer)};
+}
+
+lumbixet_put plain_put_immediate(uint8_t *buffer, size_t length)
+{
+    return plain_put_number(buffer, length, 0, 0x1f);
+}

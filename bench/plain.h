@@ -1,0 +1,32 @@
+/* The calls of lumbixet.h under another name: plain C from document 01, with the same answers and no proof. */
+#ifndef PLAIN_H
+#define PLAIN_H
+
+#include "lumbixet.h"
+
+lumbixet_number plain_read_number(const uint8_t *bytes, size_t length, size_t at);
+lumbixet_put plain_put_number(uint8_t *buffer, size_t length, size_t at, uint64_t value);
+
+lumbixet_frequency plain_read_frequency(const uint8_t *bytes, size_t length);
+lumbixet_immediate_frame plain_read_immediate(const uint8_t *bytes, size_t length);
+lumbixet_ack plain_read_ack(const uint8_t *bytes, size_t length, uint64_t *ranges, size_t room);
+lumbixet_put plain_put_frequency(uint8_t *buffer, size_t length, uint64_t sequence, uint64_t threshold,
+                                 uint64_t delay, uint64_t reordering);
+lumbixet_put plain_put_immediate(uint8_t *buffer, size_t length);
+
+lumbixet_answer plain_open(uint64_t threshold, uint64_t reordering, uint64_t maximum_ms, uint64_t minimum_us);
+lumbixet_answer plain_packet(lumbixet_receiver receiver, uint64_t number, uint64_t time_us, bool eliciting,
+                             bool marked);
+lumbixet_answer plain_timer(lumbixet_receiver receiver, uint64_t time_us);
+lumbixet_answer plain_threshold(lumbixet_receiver receiver, uint64_t sequence, uint64_t threshold, uint64_t delay_us,
+                                uint64_t reordering);
+lumbixet_answer plain_immediate(lumbixet_receiver receiver);
+lumbixet_wrote plain_write(lumbixet_receiver receiver, uint64_t time_us, uint8_t *buffer, size_t length);
+
+lumbixet_report plain_read_report(const uint8_t *bytes, size_t length);
+lumbixet_entries plain_find_entries(const uint8_t *bytes, size_t length);
+lumbixet_entry plain_read_entry(const uint8_t *entries, size_t length, size_t index);
+lumbixet_written plain_write_report(uint8_t *buffer, size_t length, lumbixet_header header, const uint8_t *records,
+                                    size_t records_length);
+
+#endif

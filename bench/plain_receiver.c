@@ -1,0 +1,314 @@
+/* The receiver by hand from document 01: the same answers and refusals as the archive, and no proof. */
+#include "plain_numbers.h"
+
+#define DELAY_LIMIT_MS 16384
+#define DELAY_LIMIT_US 16384000
+#define PLACES 1024
+#define WORDS 16
+
+/* ---- the window: place 1023 is L */
+
+static inline uint64_t less(uint64_t a, uint64_t b)
+{
+    return a < b ? 0 : a - b;
+}
+
+static inline uint64_t larger(uint64_t a, uint64_t b)
+{
+    return a < b ? b : a;
+}
+
+static inline bool is_marked(const uint64_t *words, uint64_t place)
+{
+    return words[place / 64] >> place % 64 & 1;
+}
+
+static inline void mark(uint64_t *words, uint64_t place)
+{
+    words[place / 64] |= UINT64_C(1) << place % 64;
+}
+
+/* Moves every mark `by` places down; those below place 0 are dropped. */
+static inline void advance(uint64_t *words, uint64_t by)
+{
+    if (by >= PLACES) {
+        memset(words, 0, WORDS * sizeof *words);
+        return;
+    }
+    size_t whole = by / 64;
+    unsigned bits = by % 64;
+    if (whole) {
+        memmove(words, words + whole, (WORDS - whole) * sizeof *words);
+        memset(words + WORDS - whole, 0, whole * sizeof *words);
+    }
+    if (bits) {
+        for (size_t i = 0; i < WORDS - 1; i++)
+            words[i] = words[i] >> bits | words[i + 1] << (64 - bits);
+        words[WORDS - 1] >>= bits;
+    }
+}
+
+/* The smallest place from `from` on and below `to` that is not marked, or `to`. */
+static inline uint64_t first_missing(const uint64_t *words, uint64_t from, uint64_t to)
+{
+    while (from < to) {
+        uint64_t rest = ~words[from / 64] >> from % 64;
+        if (rest) {
+            uint64_t place = from + (uint64_t)__builtin_ctzll(rest);
+            return place < to ? place : to;
+        }
+        from += 64 - from % 64;
+    }
+    return to;
+}
+
+/* How many places directly below `place` are marked, or, with `marked` false, are not. */
+static inline uint64_t run_below(const uint64_t *words, uint64_t place, bool marked)
+{
+    uint64_t left = place;
+    while (left) {
+        uint64_t top = (left - 1) % 64;
+        uint64_t word = words[(left - 1) / 64];
+        uint64_t other = (marked ? ~word : word) << (63 - top);
+        if (other)
+            return place - left + (uint64_t)__builtin_clzll(other);
+        left -= top + 1;
+    }
+    return place;
+}
+
+static inline bool none_below(const uint64_t *words, uint64_t place)
+{
+    uint64_t any = 0;
+    for (size_t i = 0; i < place / 64; i++)
+        any |= words[i];
+    if (place % 64)
+        any |= words[place / 64] << (64 - place % 64);
+    return any == 0;
+}
+
+/* ---- the receiver */
+
+static inline bool consistent(const lumbixet_receiver *r)
+{
+    uint64_t end = r->end;
+    if (end > LARGEST + 1 || r->pending_count > LARGEST + 1 || r->sequence > LARGEST + 1)
+        return false;
+    if (r->arrived > LARGEST || r->pending_first > LARGEST || r->threshold > LARGEST || r->reordering > LARGEST)
+        return false;
+    if (r->maximum >= DELAY_LIMIT_MS || r->minimum > r->maximum * 1000)
+        return false;
+    if (r->delay >= DELAY_LIMIT_US || r->delay < r->minimum)
+        return false;
+    if (r->acknowledged > end || r->highest > end || r->pending_end > end)
+        return false;
+    if ((r->pending_count == 0) != (r->pending_end == 0))
+        return false;
+    if (r->cause > (end ? 5 : 0))
+        return false;
+    if (end && !is_marked(r->window, PLACES - 1))
+        return false;
+    return none_below(r->window, less(PLACES, end));
+}
+
+/* The place of number n, or 0 where it lies below the window. */
+static inline uint64_t place_of(const lumbixet_receiver *r, uint64_t n)
+{
+    return less(n + PLACES, r->end);
+}
+
+/* Whether a number from `from` up to below `to` is missing in the window; *m is then the smallest. */
+static inline bool missing(const lumbixet_receiver *r, uint64_t from, uint64_t to, uint64_t *m)
+{
+    from = larger(from, less(r->end, PLACES));
+    if (from >= to)
+        return false;
+    uint64_t last = place_of(r, to);
+    uint64_t place = first_missing(r->window, place_of(r, from), last);
+    *m = r->end + place - PLACES;
+    return place < last;
+}
+
+/* Cause 3, judged on the record with the packet marked; `highest` is the end of the earlier H. */
+static inline bool order(const lumbixet_receiver *r, uint64_t number, uint64_t highest)
+{
+    uint64_t m;
+    if (r->reordering == 0)
+        return false;
+    if (r->reordering == 1)
+        return number + 1 < highest || missing(r, highest, number, &m);
+    uint64_t reach = r->reordering < PLACES ? r->reordering : PLACES - 1;
+    uint64_t newest = r->pending_end - 1;
+    return missing(r, less(r->acknowledged, reach), newest, &m) && newest - m >= reach;
+}
+
+static inline uint64_t packet_refusal(const lumbixet_receiver *r, uint64_t number, uint64_t time_us)
+{
+    if (!consistent(r))
+        return LUMBIXET_INCONSISTENT;
+    if (number > LARGEST || time_us > LARGEST)
+        return LUMBIXET_TOO_LARGE;
+    if (number >= r->end)
+        return LUMBIXET_ACCEPTED;
+    if (number + PLACES < r->end)
+        return LUMBIXET_BELOW_WINDOW;
+    return is_marked(r->window, place_of(r, number)) ? LUMBIXET_REPEATED : LUMBIXET_ACCEPTED;
+}
+
+lumbixet_answer plain_open(uint64_t threshold, uint64_t reordering, uint64_t maximum_ms, uint64_t minimum_us)
+{
+    uint64_t result = LUMBIXET_ACCEPTED;
+    if (threshold > LARGEST || reordering > LARGEST || maximum_ms > LARGEST || minimum_us > LARGEST)
+        result = LUMBIXET_TOO_LARGE;
+    else if (maximum_ms >= DELAY_LIMIT_MS || minimum_us > maximum_ms * 1000)
+        result = LUMBIXET_DELAY;
+    if (result)
+        threshold = 1, reordering = 1, maximum_ms = 25, minimum_us = 1000;
+    return (lumbixet_answer){result,
+                             {.threshold = threshold,
+                              .reordering = reordering,
+                              .delay = maximum_ms * 1000,
+                              .maximum = maximum_ms,
+                              .minimum = minimum_us}};
+}
+
+/* The parameter is the call's own copy: it is changed in place and handed back. */
+lumbixet_answer plain_packet(lumbixet_receiver receiver, uint64_t number, uint64_t time_us, bool eliciting,
+                             bool marked)
+{
+    uint64_t refusal = packet_refusal(&receiver, number, time_us);
+    if (refusal)
+        return (lumbixet_answer){refusal, receiver};
+    bool begins = marked && (receiver.end == 0 || !receiver.marked);
+    uint64_t highest = receiver.highest;
+    if (number < receiver.end) {
+        mark(receiver.window, place_of(&receiver, number));
+    } else {
+        advance(receiver.window, number + 1 - receiver.end);
+        mark(receiver.window, PLACES - 1);
+        receiver.end = number + 1;
+        receiver.arrived = time_us;
+    }
+    receiver.marked = marked;
+    if (!eliciting)
+        return (lumbixet_answer){LUMBIXET_ACCEPTED, receiver};
+    if (receiver.pending_count == 0)
+        receiver.pending_first = time_us;
+    if (receiver.pending_count <= LARGEST)
+        receiver.pending_count++;
+    receiver.pending_end = larger(receiver.pending_end, number + 1);
+    receiver.highest = larger(highest, number + 1);
+    if (receiver.cause == LUMBIXET_NOT_DUE) {
+        if (receiver.pending_count > receiver.threshold)
+            receiver.cause = LUMBIXET_COUNT;
+        else if (order(&receiver, number, highest))
+            receiver.cause = LUMBIXET_ORDER;
+        else if (begins)
+            receiver.cause = LUMBIXET_CONGESTION;
+    }
+    return (lumbixet_answer){LUMBIXET_ACCEPTED, receiver};
+}
+
+lumbixet_answer plain_timer(lumbixet_receiver receiver, uint64_t time_us)
+{
+    uint64_t result = LUMBIXET_ACCEPTED;
+    if (!consistent(&receiver))
+        result = LUMBIXET_INCONSISTENT;
+    else if (time_us > LARGEST)
+        result = LUMBIXET_TOO_LARGE;
+    else if (!receiver.cause && receiver.pending_count && less(time_us, receiver.pending_first) >= receiver.delay)
+        receiver.cause = LUMBIXET_TIMER;
+    return (lumbixet_answer){result, receiver};
+}
+
+lumbixet_answer plain_threshold(lumbixet_receiver receiver, uint64_t sequence, uint64_t threshold, uint64_t delay_us,
+                                uint64_t reordering)
+{
+    uint64_t result = LUMBIXET_ACCEPTED;
+    if (!consistent(&receiver)) {
+        result = LUMBIXET_INCONSISTENT;
+    } else if (sequence > LARGEST || threshold > LARGEST || delay_us > LARGEST || reordering > LARGEST) {
+        result = LUMBIXET_TOO_LARGE;
+    } else if (delay_us >= DELAY_LIMIT_US || delay_us < receiver.minimum) {
+        result = LUMBIXET_DELAY;
+    } else if (sequence < receiver.sequence) {
+        result = LUMBIXET_STALE;
+    } else {
+        receiver.threshold = threshold;
+        receiver.reordering = reordering;
+        receiver.delay = delay_us;
+        receiver.sequence = sequence + 1;
+    }
+    return (lumbixet_answer){result, receiver};
+}
+
+lumbixet_answer plain_immediate(lumbixet_receiver receiver)
+{
+    uint64_t result = LUMBIXET_ACCEPTED;
+    if (!consistent(&receiver))
+        result = LUMBIXET_INCONSISTENT;
+    else if (receiver.end == 0)
+        result = LUMBIXET_NOTHING_YET;
+    else if (!receiver.cause)
+        receiver.cause = LUMBIXET_IMMEDIATE;
+    return (lumbixet_answer){result, receiver};
+}
+
+/* The fields of an ACK frame behind its range count: the first range, then gap and length pairs. */
+struct ranges {
+    uint64_t count; /* of the ranges after the first */
+    uint16_t first;
+    uint16_t pairs[PLACES];
+};
+
+/* Collects as many newest ranges as fit the room beside `bytes` other bytes; false where not even the first does. */
+static inline bool collect(const uint64_t *words, size_t bytes, size_t room, struct ranges *ranges)
+{
+    uint64_t size = run_below(words, PLACES, true);
+    uint64_t low = PLACES - size;
+    ranges->first = (uint16_t)(size - 1);
+    ranges->count = 0;
+    bytes += width(size - 1);
+    if (room < bytes + 1)
+        return false;
+    while (low) {
+        uint64_t gap = run_below(words, low, false);
+        if (gap == low)
+            break;
+        size = run_below(words, low - gap, true);
+        bytes += width(gap - 1) + width(size - 1);
+        if (room < bytes + width(ranges->count + 1))
+            break;
+        ranges->pairs[2 * ranges->count] = (uint16_t)(gap - 1);
+        ranges->pairs[2 * ranges->count + 1] = (uint16_t)(size - 1);
+        ranges->count++;
+        low -= gap + size;
+    }
+    return true;
+}
+
+lumbixet_wrote plain_write(lumbixet_receiver receiver, uint64_t time_us, uint8_t *buffer, size_t length)
+{
+    uint64_t result = LUMBIXET_ACCEPTED;
+    uint64_t delay = less(time_us, receiver.arrived) / 8;
+    struct ranges ranges;
+    if (!consistent(&receiver))
+        result = LUMBIXET_INCONSISTENT;
+    else if (time_us > LARGEST)
+        result = LUMBIXET_TOO_LARGE;
+    else if (receiver.end == 0)
+        result = LUMBIXET_NOTHING_YET;
+    else if (!collect(receiver.window, 1 + width(receiver.end - 1) + width(delay), length, &ranges))
+        result = LUMBIXET_NO_ROOM;
+    if (result)
+        return (lumbixet_wrote){result, 0, receiver};
+    uint8_t *p = store(store(store(buffer, 2), receiver.end - 1), delay);
+    p = store(store(p, ranges.count), ranges.first);
+    for (uint64_t i = 0; i < 2 * ranges.count; i++)
+        p = store(p, ranges.pairs[i]);
+    receiver.acknowledged = receiver.end;
+    receiver.pending_end = 0;
+    receiver.pending_count = 0;
+    receiver.cause = LUMBIXET_NOT_DUE;
+    return (lumbixet_wrote){LUMBIXET_ACCEPTED, (uint64_t)(p - buffer), receiver};
+}

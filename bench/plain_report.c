@@ -1,0 +1,178 @@
+/* The feedback report by hand from document 01: the same answers and refusals as the archive, and no proof. */
+#include "plain_numbers.h"
+
+#define RECORD 16
+#define MOST_METRICS 4
+#define MOST_ENTRIES 50
+#define MOST_GIVEN 256
+
+static inline bool known_type(uint64_t kind)
+{
+    return kind == 0x02 || kind == 0x04 || kind == 0x10 || kind == 0x12;
+}
+
+static inline bool entry_good(const uint8_t *record)
+{
+    if (load8(record) > LARGEST || record[8] > LUMBIXET_PARTIAL || record[9] || record[10] || record[11])
+        return false;
+    return record[8] != LUMBIXET_NOT_RECEIVED || load4(record + 12) == 0;
+}
+
+/* Whether every record obeys its rule and the object numbers rise strictly. */
+static bool entries_good(const uint8_t *records, size_t count)
+{
+    uint64_t above = 0; /* one past the last object number */
+    for (size_t i = 0; i < count; i++) {
+        const uint8_t *record = records + i * RECORD;
+        if (!entry_good(record) || load8(record) < above)
+            return false;
+        above = load8(record) + 1;
+    }
+    return true;
+}
+
+/* Reads the numbers of a report, each judged as it comes. */
+static uint64_t take_header(struct reader *reader, lumbixet_header *h)
+{
+    uint64_t average;
+    if (!take(reader, &h->timestamp) || !take(reader, &h->interval) || !take(reader, &h->total) ||
+        !take(reader, &h->received) || !take(reader, &h->late) || !take(reader, &h->lost))
+        return LUMBIXET_ENDS;
+    if (h->total != h->received + h->late + h->lost)
+        return LUMBIXET_SUM;
+    if (!take(reader, &average) || !take(reader, &h->metrics))
+        return LUMBIXET_ENDS;
+    h->average = average % 2 ? -(int64_t)(average / 2) - 1 : (int64_t)(average / 2);
+    if (h->metrics > MOST_METRICS)
+        return LUMBIXET_COUNT_OR_TYPE;
+    for (uint64_t i = 0; i < h->metrics; i++) {
+        if (!take(reader, &h->kinds[i]))
+            return LUMBIXET_ENDS;
+        if (!known_type(h->kinds[i]) || (i && h->kinds[i] <= h->kinds[i - 1]))
+            return LUMBIXET_COUNT_OR_TYPE;
+        if (!take(reader, &h->values[i]))
+            return LUMBIXET_ENDS;
+    }
+    if (!take(reader, &h->entries))
+        return LUMBIXET_ENDS;
+    return h->entries > MOST_ENTRIES ? LUMBIXET_COUNT_OR_TYPE : LUMBIXET_ACCEPTED;
+}
+
+/* Judges a whole report; the reader then stands where the entries start. */
+static uint64_t judge_report(struct reader *reader, lumbixet_header *header)
+{
+    uint64_t result = take_header(reader, header);
+    if (result)
+        return result;
+    size_t left = reader->length - reader->at;
+    if (left < header->entries * RECORD)
+        return LUMBIXET_ENDS;
+    if (!entries_good(reader->bytes + reader->at, header->entries))
+        return LUMBIXET_ENTRY;
+    return left > header->entries * RECORD ? LUMBIXET_BYTES_BEHIND : LUMBIXET_ACCEPTED;
+}
+
+lumbixet_report plain_read_report(const uint8_t *bytes, size_t length)
+{
+    struct reader reader = {bytes, length, 0};
+    lumbixet_report report = {0};
+    report.result = judge_report(&reader, &report.header);
+    if (report.result)
+        memset(&report.header, 0, sizeof report.header);
+    return report;
+}
+
+lumbixet_entries plain_find_entries(const uint8_t *bytes, size_t length)
+{
+    struct reader reader = {bytes, length, 0};
+    lumbixet_header header = {0};
+    if (judge_report(&reader, &header))
+        return (lumbixet_entries){length, 0};
+    return (lumbixet_entries){reader.at, length - reader.at};
+}
+
+lumbixet_entry plain_read_entry(const uint8_t *entries, size_t length, size_t index)
+{
+    if (index >= length / RECORD)
+        return (lumbixet_entry){.result = LUMBIXET_ENDS};
+    const uint8_t *record = entries + index * RECORD;
+    if (!entry_good(record))
+        return (lumbixet_entry){.result = LUMBIXET_ENTRY};
+    return (lumbixet_entry){LUMBIXET_ACCEPTED, load8(record), record[8], load4(record + 12)};
+}
+
+/* The number that a signed average is stored as; outside its range it is above the largest number. */
+static inline uint64_t stored(int64_t n)
+{
+    return n < 0 ? (uint64_t)(-(n + 1)) * 2 + 1 : (uint64_t)n * 2;
+}
+
+/* Judges a header to be written: every number, then the sum, then the metrics. */
+static uint64_t header_refusal(const lumbixet_header *h)
+{
+    if (h->timestamp > LARGEST || h->interval > LARGEST || h->total > LARGEST || h->received > LARGEST ||
+        h->late > LARGEST || h->lost > LARGEST || stored(h->average) > LARGEST || h->metrics > LARGEST)
+        return LUMBIXET_TOO_LARGE;
+    for (uint64_t i = 0; i < h->metrics && i < MOST_METRICS; i++)
+        if (h->kinds[i] > LARGEST || h->values[i] > LARGEST)
+            return LUMBIXET_TOO_LARGE;
+    if (h->total != h->received + h->late + h->lost)
+        return LUMBIXET_SUM;
+    if (h->metrics > MOST_METRICS)
+        return LUMBIXET_COUNT_OR_TYPE;
+    for (uint64_t i = 0; i < h->metrics; i++)
+        if (!known_type(h->kinds[i]) || (i && h->kinds[i] <= h->kinds[i - 1]))
+            return LUMBIXET_COUNT_OR_TYPE;
+    return LUMBIXET_ACCEPTED;
+}
+
+static uint64_t records_refusal(const uint8_t *records, size_t length)
+{
+    if (length % RECORD)
+        return LUMBIXET_ENTRY;
+    if (length / RECORD > MOST_GIVEN)
+        return LUMBIXET_COUNT_OR_TYPE;
+    return entries_good(records, length / RECORD) ? LUMBIXET_ACCEPTED : LUMBIXET_ENTRY;
+}
+
+/* How many bytes a header takes that was judged, up to before the entry count. */
+static inline size_t header_width(const lumbixet_header *h)
+{
+    size_t bytes = width(h->timestamp) + width(h->interval) + width(h->total) + width(h->received) + width(h->late) +
+                   width(h->lost) + width(stored(h->average)) + width(h->metrics);
+    for (uint64_t i = 0; i < h->metrics; i++)
+        bytes += width(h->kinds[i]) + width(h->values[i]);
+    return bytes;
+}
+
+/* Stores as much of a header, and answers the place behind it. */
+static inline uint8_t *store_header(uint8_t *buffer, const lumbixet_header *h)
+{
+    uint8_t *p = store(store(store(buffer, h->timestamp), h->interval), h->total);
+    p = store(store(store(p, h->received), h->late), h->lost);
+    p = store(store(p, stored(h->average)), h->metrics);
+    for (uint64_t i = 0; i < h->metrics; i++)
+        p = store(store(p, h->kinds[i]), h->values[i]);
+    return p;
+}
+
+lumbixet_written plain_write_report(uint8_t *buffer, size_t length, lumbixet_header header, const uint8_t *records,
+                                    size_t records_length)
+{
+    uint64_t result = header_refusal(&header);
+    if (!result)
+        result = records_refusal(records, records_length);
+    if (result)
+        return (lumbixet_written){.result = result};
+    size_t head = header_width(&header);
+    if (length <= head)
+        return (lumbixet_written){.result = LUMBIXET_NO_ROOM};
+    size_t kept = records_length / RECORD;
+    if (kept > MOST_ENTRIES)
+        kept = MOST_ENTRIES;
+    if (kept > (length - head - 1) / RECORD)
+        kept = (length - head - 1) / RECORD;
+    uint8_t *p = store(store_header(buffer, &header), kept);
+    memcpy(p, records + records_length - kept * RECORD, kept * RECORD);
+    return (lumbixet_written){LUMBIXET_ACCEPTED, head + 1 + kept * RECORD, kept};
+}

@@ -1,0 +1,30 @@
+/* The two sides that are compared and timed: the same calls by pointer, so that the code around them is the same. */
+#ifndef SIDES_H
+#define SIDES_H
+
+#include "lumbixet.h"
+
+struct side {
+    lumbixet_number (*read_number)(const uint8_t *, size_t, size_t);
+    lumbixet_put (*put_number)(uint8_t *, size_t, size_t, uint64_t);
+    lumbixet_frequency (*read_frequency)(const uint8_t *, size_t);
+    lumbixet_immediate_frame (*read_immediate)(const uint8_t *, size_t);
+    lumbixet_ack (*read_ack)(const uint8_t *, size_t, uint64_t *, size_t);
+    lumbixet_put (*put_frequency)(uint8_t *, size_t, uint64_t, uint64_t, uint64_t, uint64_t);
+    lumbixet_put (*put_immediate)(uint8_t *, size_t);
+    lumbixet_answer (*open)(uint64_t, uint64_t, uint64_t, uint64_t);
+    lumbixet_answer (*packet)(lumbixet_receiver, uint64_t, uint64_t, bool, bool);
+    lumbixet_answer (*timer)(lumbixet_receiver, uint64_t);
+    lumbixet_answer (*threshold)(lumbixet_receiver, uint64_t, uint64_t, uint64_t, uint64_t);
+    lumbixet_answer (*immediate)(lumbixet_receiver);
+    lumbixet_wrote (*write)(lumbixet_receiver, uint64_t, uint8_t *, size_t);
+    lumbixet_report (*read_report)(const uint8_t *, size_t);
+    lumbixet_entries (*find_entries)(const uint8_t *, size_t);
+    lumbixet_entry (*read_entry)(const uint8_t *, size_t, size_t);
+    lumbixet_written (*write_report)(uint8_t *, size_t, lumbixet_header, const uint8_t *, size_t);
+};
+
+extern const struct side archive;
+extern const struct side plain;
+
+#endif

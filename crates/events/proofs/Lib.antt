@@ -1,0 +1,8 @@
+pub mod Reading
+pub mod Decimal
+pub mod Laid
+pub mod Playing
+pub mod Cutting
+pub mod Exactly
+pub mod Settled
+pub mod Only

@@ -1,0 +1,159 @@
+//! The receiver's calls: on made-up records, and on records grown from an opening.
+
+use crate::archive::*;
+use crate::compare_archive::{Call, Lent, Tally};
+use crate::made_up::{argument, raw, reordering, up_to};
+use crate::numbers::LARGEST;
+use crate::random::Random;
+use crate::receiver::{immediate, open, packet, threshold, timer, write};
+use crate::record::{Record, WINDOW};
+use crate::refusals::ACCEPTED;
+
+/// All calls on one made-up record.
+pub fn made_up(random: &mut Random, tally: &mut Tally) -> Result<(), String> {
+    let given = raw(random);
+    let record = record_of(&given);
+    for _ in 0..3 {
+        compare_packet(random, tally, &given, &record)?;
+        compare_write(random, tally, &given, &record)?;
+    }
+    compare_timer(random, tally, &given, &record)?;
+    compare_threshold(random, tally, &given, &record)?;
+    compare_immediate(tally, &given, &record)?;
+    Ok(())
+}
+
+/// A receiver is opened, and each of many calls is given the record that the call before handed back.
+pub fn grown(random: &mut Random, tally: &mut Tally) -> Result<(), String> {
+    let mut given = compare_open(random, tally)?;
+    for _ in 0..random.between(1, 120) {
+        let record = record_of(&given);
+        given = match random.below(20) {
+            0..=13 => compare_packet(random, tally, &given, &record)?,
+            14 => compare_timer(random, tally, &given, &record)?,
+            15 => compare_threshold(random, tally, &given, &record)?,
+            16 => compare_immediate(tally, &given, &record)?,
+            _ => compare_write(random, tally, &given, &record)?,
+        };
+    }
+    Ok(())
+}
+
+/// What the archive is to answer: the next record, or on any refusal the record exactly as it was given.
+fn wanted(given: &Receiver, (result, next): (u64, Record)) -> Answer {
+    Answer { result, next: if result == ACCEPTED { raw_of(&next) } else { *given } }
+}
+
+fn compare_open(random: &mut Random, tally: &mut Tally) -> Result<Receiver, String> {
+    let threshold = random.one_of(&[0, 1, 3, 30, 1000, 1 << 61]);
+    let reordering = reordering(random);
+    let fit = [(25, 1000), (25, 25_000), (0, 0), (1, 1000), (16_383, 16_383_000)];
+    let unfit = [(25, 25_001), (0, 1), (16_384, 0), (LARGEST, 1000), (16_383, 16_383_001)];
+    let (maximum, minimum) = if random.chance(900) { random.one_of(&fit) } else { random.one_of(&unfit) };
+    let mut given = [threshold, reordering, maximum, minimum];
+    if random.chance(50) {
+        given[random.below(4) as usize] = random.one_of(&[LARGEST, LARGEST + 1, u64::MAX]);
+    }
+    let [t, r, most, least] = given;
+    let (result, next) = open(t, r, most, least);
+    let archive = unsafe { lumbixet_open(t, r, most, least) };
+    tally.compare(Call { name: "open", result, given: &given }, Answer { result, next: raw_of(&next) }, archive)?;
+    Ok(archive.next)
+}
+
+/// Numbers around L, H, A, U, the floor and the window's marks; now and then any.
+fn packet_number(random: &mut Random, record: &Record) -> u64 {
+    let largest = record.largest.unwrap_or(0);
+    let near = |random: &mut Random, number: u64| number.saturating_sub(2).saturating_add(random.below(5));
+    match random.below(14) {
+        // rare, for a record whose L is 2^62 - 1 takes little more
+        0 if random.chance(100) => argument(random),
+        1 if random.chance(100) => LARGEST - random.below(3),
+        0 => near(random, record.floor()),
+        1 => near(random, record.highest.unwrap_or(0)),
+        2 => near(random, record.acknowledged.unwrap_or(0)),
+        3 => near(random, record.pending_largest.unwrap_or(0)),
+        4 => largest.saturating_add(random.below(200)),
+        5 => largest.saturating_add(random.between(WINDOW - 3, WINDOW + 3)),
+        6 => largest.saturating_sub(random.below(WINDOW + 3)),
+        7 | 8 => record.first_missing(largest.saturating_sub(random.below(WINDOW)), largest).unwrap_or(largest),
+        _ => largest.saturating_add(random.between(1, 4)),
+    }
+}
+
+/// Times around the moments that the record knows.
+fn time(random: &mut Random, record: &Record) -> u64 {
+    let known = [record.pending_first.saturating_add(record.delay), record.pending_first, record.arrived];
+    match random.below(40) {
+        0 => argument(random),
+        1..=12 => random.one_of(&known).saturating_add(up_to(random, 70_000)),
+        _ => random.one_of(&known).saturating_sub(1).saturating_add(random.below(3)),
+    }
+}
+
+fn compare_packet(random: &mut Random, tally: &mut Tally, given: &Receiver, record: &Record) -> Result<Receiver, String> {
+    let (number, time) = (packet_number(random, record), time(random, record));
+    let (eliciting, marked) = (random.chance(800), random.chance(300));
+    let papers = wanted(given, packet(record.clone(), number, time, eliciting, marked));
+    let archive = unsafe { lumbixet_packet(*given, number, time, eliciting, marked) };
+    let call = Call { name: "packet", result: papers.result, given: &(number, time, eliciting, marked, given) };
+    tally.compare(call, papers, archive)?;
+    tally.note_cause(&archive);
+    Ok(archive.next)
+}
+
+fn compare_timer(random: &mut Random, tally: &mut Tally, given: &Receiver, record: &Record) -> Result<Receiver, String> {
+    let time = time(random, record);
+    let papers = wanted(given, timer(record.clone(), time));
+    let archive = unsafe { lumbixet_timer(*given, time) };
+    tally.compare(Call { name: "timer", result: papers.result, given: &(time, given) }, papers, archive)?;
+    tally.note_cause(&archive);
+    Ok(archive.next)
+}
+
+fn compare_threshold(random: &mut Random, tally: &mut Tally, given: &Receiver, record: &Record) -> Result<Receiver, String> {
+    let last = record.sequence.unwrap_or(0);
+    let sequence = if random.chance(200) { argument(random) } else { last.saturating_sub(1).saturating_add(random.below(4)) };
+    let delays = [record.minimum_us, record.minimum_us.saturating_sub(1), 25_000, 16_383_999, 16_384_000, argument(random)];
+    let delay = random.one_of(&delays);
+    let counts = [0, 1, 5, 1000, argument(random)];
+    let (count, order) = (random.one_of(&counts), if random.chance(30) { argument(random) } else { reordering(random) });
+    let papers = wanted(given, threshold(record.clone(), sequence, count, delay, order));
+    let archive = unsafe { lumbixet_threshold(*given, sequence, count, delay, order) };
+    let call = Call { name: "threshold", result: papers.result, given: &(sequence, count, delay, order, given) };
+    tally.compare(call, papers, archive)?;
+    Ok(archive.next)
+}
+
+fn compare_immediate(tally: &mut Tally, given: &Receiver, record: &Record) -> Result<Receiver, String> {
+    let papers = wanted(given, immediate(record.clone()));
+    let archive = unsafe { lumbixet_immediate(*given) };
+    tally.compare(Call { name: "immediate", result: papers.result, given }, papers, archive)?;
+    tally.note_cause(&archive);
+    Ok(archive.next)
+}
+
+/// Room for nothing, for the first range, for all ranges, or for some of them.
+fn room(random: &mut Random, record: &Record) -> usize {
+    let all = 30 + 2 * record.ranges().len() as u64;
+    match random.below(4) {
+        0 => random.below(12) as usize,
+        1 => random.between(20, 30) as usize,
+        2 => random.below(all + 1) as usize,
+        _ => random.one_of(&[1200, 2400]),
+    }
+}
+
+fn compare_write(random: &mut Random, tally: &mut Tally, given: &Receiver, record: &Record) -> Result<Receiver, String> {
+    let time = time(random, record);
+    let length = room(random, record);
+    let mut papers_lent = Lent::new(random, length);
+    let mut archive_lent = Lent { memory: papers_lent.memory.clone(), length };
+    let (result, used, next) = write(record.clone(), time, papers_lent.buffer());
+    let answer = wanted(given, (result, next));
+    let papers = Wrote { result, length: used as u64, next: answer.next };
+    let archive = unsafe { lumbixet_write(*given, time, archive_lent.buffer().as_mut_ptr(), length) };
+    let call = Call { name: "write", result, given: &(time, length, given) };
+    tally.compare(call, (papers, papers_lent.memory), (archive, archive_lent.memory))?;
+    Ok(archive.next)
+}

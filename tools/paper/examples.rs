@@ -1,0 +1,47 @@
+//! The settled examples of document 01, and the published examples of RFC 9000, appendix A.1: one line for each.
+
+use crate::replay;
+use crate::{examples_receiver, examples_report, examples_wire};
+
+pub struct Examples {
+    different: usize,
+}
+
+impl Examples {
+    pub fn check<T: PartialEq + std::fmt::Debug>(&mut self, name: &str, found: T, wanted: T) {
+        if found == wanted {
+            println!("ok         {name}");
+        } else {
+            println!("DIFFERENT  {name}: found {found:?}, wanted {wanted:?}");
+            self.different += 1;
+        }
+    }
+}
+
+pub fn run() -> Result<(), String> {
+    let mut examples = Examples { different: 0 };
+    examples_wire::check(&mut examples);
+    examples_receiver::check(&mut examples);
+    examples_report::check(&mut examples);
+    replays(&mut examples);
+    match examples.different {
+        0 => Ok(()),
+        count => Err(format!("{count} examples differ")),
+    }
+}
+
+/// Bytes as the papers write them.
+pub fn hex(text: &str) -> Vec<u8> {
+    text.split_whitespace().map(|byte| u8::from_str_radix(byte, 16).expect("two hexadecimal digits")).collect()
+}
+
+fn replays(examples: &mut Examples) {
+    let mut trace = Vec::new();
+    for (kind, number) in [(1, 0), (1, 1), (1, 3), (1, 4), (1, 5), (3, 0), (1, 5)] {
+        trace.extend_from_slice(&[kind, 1, 0, 0, 0, 0, 0, 0, 0, 0, 0, 0, 0, 0, 0, number, 0, 0, 0, 0, 0, 0, 0, 0]);
+    }
+    let mut lines = Vec::new();
+    let ended = replay::run(&trace[..], &mut lines).is_ok();
+    let wanted = "0 0 0\n1 0 0\n2 0 0\n3 0 0\n4 0 3\n5 0 0\n6 6 0\n";
+    examples.check("the replay of document 01", (ended, String::from_utf8_lossy(&lines).as_ref()), (true, wanted));
+}

@@ -1,0 +1,79 @@
+//! Examples of the feedback report.
+
+use crate::examples::{hex, Examples};
+use crate::numbers::LARGEST;
+use crate::report::{find_entries, read_entry, read_report, write_report, Entry, Header, LARGEST_AVERAGE, SMALLEST_AVERAGE};
+
+pub fn check(examples: &mut Examples) {
+    reports(examples);
+    report_faults(examples);
+}
+
+/// P9's header; three records that rise.
+fn p9() -> Header {
+    Header { timestamp: 1_000_000, interval: 100_000, total: 3, received: 1, late: 1, lost: 1, average: -2, ..Header::default() }
+}
+
+fn three_records() -> Vec<u8> {
+    hex("00 00 00 00 00 00 00 07 00 00 00 00 00 00 00 09
+         00 00 00 00 00 00 00 08 02 00 00 00 00 00 00 00
+         3f ff ff ff ff ff ff ff 03 00 00 00 ff ff ff ff")
+}
+
+fn reports(examples: &mut Examples) {
+    let bytes = hex("80 0f 42 40 80 01 86 a0 03 01 01 01 03 00 00");
+    let mut buffer = [0xee; 64];
+    examples.check("P9: written in 15 bytes", write_report(&mut buffer, &p9(), &[]), Ok((15, 0)));
+    examples.check("P9: and they are these", buffer[..15].to_vec(), bytes.clone());
+    examples.check("P9: read back", read_report(&bytes), Ok((p9(), 15)));
+    for (room, wanted) in
+        [(63, Ok((63, 3))), (62, Ok((47, 2))), (47, Ok((47, 2))), (46, Ok((31, 1))), (15, Ok((15, 0))), (14, Err(9))]
+    {
+        let mut buffer = vec![0xee; room];
+        examples.check(&format!("P10: three records in room {room}"), write_report(&mut buffer, &p9(), &three_records()), wanted);
+        if let Ok((length, kept)) = wanted {
+            let last = &three_records()[48 - 16 * kept..];
+            examples.check("  the last ones are kept", (buffer[14], &buffer[15..length]), (kept as u8, last));
+            examples.check("  and found again", find_entries(&buffer[..length]), (15, 16 * kept));
+        }
+    }
+    let third = Entry { object: LARGEST, status: 3, age: 0xffff_ffff };
+    examples.check("the third record is an entry", read_entry(&three_records(), 2), Ok(third));
+    examples.check("there is no fourth", read_entry(&three_records(), 3), Err(2));
+    for average in [SMALLEST_AVERAGE, LARGEST_AVERAGE, -1, 0, 1] {
+        let header = Header { average, ..p9() };
+        let length = write_report(&mut buffer, &header, &[]).map_or(0, |(length, _)| length);
+        examples.check(&format!("average {average} is read back"), read_report(&buffer[..length]), Ok((header, length)));
+    }
+}
+
+fn report_faults(examples: &mut Examples) {
+    let mut buffer = [0; 64];
+    let metrics = Header { metrics: 2, kinds: [0x12, 0x10, 0, 0], ..p9() };
+    let sum = Header { total: 4, ..metrics };
+    let number = Header { values: [0, LARGEST + 1, 0, 0], ..sum };
+    let records = [three_records(), vec![0]].concat();
+    examples.check("writer: 5 before 11", write_report(&mut buffer, &number, &records), Err(5));
+    examples.check("writer: 11 before 10", write_report(&mut buffer, &sum, &records), Err(11));
+    examples.check("writer: 10 before 12", write_report(&mut buffer, &metrics, &records), Err(10));
+    examples.check("writer: 12 before 9", write_report(&mut [], &p9(), &records), Err(12));
+    examples.check("writer: 257 x 16 + 1 bytes give 12", write_report(&mut buffer, &p9(), &[0; 257 * 16 + 1]), Err(12));
+    examples.check("writer: 257 records with a bad one give 10", write_report(&mut buffer, &p9(), &[0; 257 * 16]), Err(10));
+    examples.check("writer: two records of one object give 12", write_report(&mut buffer, &p9(), &[0; 32]), Err(12));
+    let five = Header { metrics: 5, kinds: [0, 0, 0, LARGEST + 1], ..p9() };
+    examples.check("writer: with count 5 the first four are judged for 5", write_report(&mut buffer, &five, &[]), Err(5));
+    examples.check("writer: then 10", write_report(&mut buffer, &Header { metrics: 5, ..p9() }, &[]), Err(10));
+    let read_faults = [
+        ("00 00 03 01 01 02", 11),
+        ("00 00 03 01 01 01", 2),
+        ("00 00 03 01 01 01 00 05", 10),
+        ("00 00 03 01 01 01 00 01 03", 10),
+        ("00 00 03 01 01 01 00 01 02 00 33", 10),
+        ("00 00 03 01 01 01 00 00 01 ff ff ff ff ff ff ff ff", 2),
+        ("00 00 03 01 01 01 00 00 01 ff ff ff ff ff ff ff ff 00 00 00 00 00 00 00 00", 12),
+        ("00 00 03 01 01 01 00 00 00 00", 13),
+    ];
+    for (bytes, result) in read_faults {
+        examples.check(&format!("reader: '{bytes}' gives {result}"), read_report(&hex(bytes)), Err(result));
+    }
+}

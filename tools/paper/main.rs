@@ -1,0 +1,68 @@
+//! A second implementation of document 01, written from the papers alone, in plain sets and numbers, to be compared with
+//! the proved one.
+//!
+//!     rustc -O --edition 2021 -o paper tools/paper/main.rs
+//!     rustc -O --edition 2021 --cfg archive -L target/staticlib -o paper tools/paper/main.rs
+//!
+//! The second links the archive for hosts in C, and has `compare-archive` too.
+
+#[cfg(archive)]
+mod archive;
+#[cfg(archive)]
+mod compare_archive;
+#[cfg(archive)]
+mod compare_codec;
+#[cfg(archive)]
+mod compare_receiver;
+mod compare_replay;
+#[cfg(archive)]
+mod compare_report;
+mod examples;
+mod examples_receiver;
+mod examples_report;
+mod examples_wire;
+mod frames;
+#[cfg(archive)]
+mod made_up;
+mod numbers;
+mod random;
+mod receiver;
+mod record;
+mod refusals;
+mod replay;
+mod report;
+mod traces;
+
+use std::io::{self, Write};
+use std::process::exit;
+
+const USAGE: &str = "paper examples                      the settled and published examples
+paper replay < TRACE                the lines of document 01's replay program
+paper compare-replay PROGRAM COUNT  the program's lines against these, over COUNT inputs
+paper compare-archive COUNT         the archive's calls against these, over COUNT rounds (built with --cfg archive)
+paper trace-large > TRACE           a trace of a million events, for timing";
+
+fn main() {
+    let words: Vec<String> = std::env::args().skip(1).collect();
+    let words: Vec<&str> = words.iter().map(String::as_str).collect();
+    let done = match words[..] {
+        ["examples"] => examples::run(),
+        ["replay"] => replay::run(io::stdin().lock(), io::stdout().lock()).map_err(|error| error.to_string()),
+        ["compare-replay", program, count] => compare_replay::run(program, number(count)),
+        #[cfg(archive)]
+        ["compare-archive", count] => compare_archive::run(number(count)),
+        ["trace-large"] => io::stdout().write_all(&traces::large()).map_err(|error| error.to_string()),
+        _ => Err(USAGE.to_string()),
+    };
+    if let Err(why) = done {
+        eprintln!("{why}");
+        exit(1);
+    }
+}
+
+fn number(word: &str) -> usize {
+    word.parse().unwrap_or_else(|_| {
+        eprintln!("'{word}' is not a count");
+        exit(1)
+    })
+}

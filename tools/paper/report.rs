@@ -1,0 +1,225 @@
+//! Document 01, "The feedback report": a header of wire numbers, then entries, records of 16 bytes.
+
+use crate::numbers::{append, high_first, judge_numbers, put_bytes, Fields, LARGEST};
+use crate::refusals::{BYTES_BEHIND, COUNT_OR_TYPE, ENDS, ENTRY, NO_ROOM, SUM, TOO_LARGE};
+
+/// "records of 16 bytes, no header"
+pub const RECORD: usize = 16;
+/// "At most 50 entries."
+const MOST_ENTRIES: usize = 50;
+/// "The writer takes a header and 0 to 256 entry records."
+const MOST_RECORDS: usize = 256;
+/// "At most 4 metrics"
+const MOST_METRICS: usize = 4;
+/// "types strictly rising, from 0x02, 0x04, 0x10, 0x12"
+const TYPES: [u64; 4] = [0x02, 0x04, 0x10, 0x12];
+/// "The average is signed", "for n from -2^61 to 2^61 - 1".
+pub const SMALLEST_AVERAGE: i64 = -(1 << 61);
+pub const LARGEST_AVERAGE: i64 = (1 << 61) - 1;
+
+/// "Timestamp; then the summary of 003: interval, total, received, late, lost, average; then metric count and type-value
+/// pairs; then entry count". The default is the empty header of a refused read. The fields lie as in the C header's.
+#[repr(C)]
+#[derive(Clone, Copy, Debug, Default, PartialEq, Eq)]
+pub struct Header {
+    pub timestamp: u64,
+    pub interval: u64,
+    pub total: u64,
+    pub received: u64,
+    pub late: u64,
+    pub lost: u64,
+    pub average: i64,
+    /// How many metrics there are; kinds and values beyond are not looked at.
+    pub metrics: u64,
+    pub kinds: [u64; MOST_METRICS],
+    pub values: [u64; MOST_METRICS],
+    /// How many entries follow; the writer takes no heed of it.
+    pub entries: u64,
+}
+
+#[derive(Clone, Copy, Debug, PartialEq, Eq)]
+pub struct Entry {
+    pub object: u64,
+    /// "0 received, 1 late, 2 not received, 3 partial"
+    pub status: u64,
+    /// "age in microseconds at the timestamp"
+    pub age: u64,
+}
+
+/// "n >= 0 is stored as 2n, negative n as -2n - 1"
+fn stored(average: i64) -> u64 {
+    let n = i128::from(average);
+    (if n >= 0 { 2 * n } else { -2 * n - 1 }) as u64
+}
+
+/// The number that is stored so.
+fn restored(stored: u64) -> i64 {
+    let half = (stored / 2) as i64;
+    if stored % 2 == 0 {
+        half
+    } else {
+        -half - 1
+    }
+}
+
+/// Reads a whole report: the header, and the place where the entries start.
+pub fn read_report(bytes: &[u8]) -> Result<(Header, usize), u64> {
+    let mut fields = Fields { bytes, at: 0 };
+    let mut header = read_summary(&mut fields)?;
+    read_metrics(&mut fields, &mut header)?;
+    header.entries = fields.number()?;
+    if header.entries > MOST_ENTRIES as u64 {
+        return Err(COUNT_OR_TYPE);
+    }
+    // "If too few bytes remain for the entries, 2 comes before any 12; 13 is last."
+    let end = fields.at + RECORD * header.entries as usize;
+    judge_records(bytes.get(fields.at..end).ok_or(ENDS)?)?;
+    if end < bytes.len() {
+        return Err(BYTES_BEHIND);
+    }
+    Ok((header, fields.at))
+}
+
+fn read_summary(fields: &mut Fields) -> Result<Header, u64> {
+    let mut header = Header {
+        timestamp: fields.number()?,
+        interval: fields.number()?,
+        total: fields.number()?,
+        received: fields.number()?,
+        late: fields.number()?,
+        lost: fields.number()?,
+        ..Header::default()
+    };
+    // "The sum (11) is checked after lost"
+    judge_sum(&header)?;
+    header.average = restored(fields.number()?);
+    Ok(header)
+}
+
+/// "10 after each count or type"
+fn read_metrics(fields: &mut Fields, header: &mut Header) -> Result<(), u64> {
+    header.metrics = fields.number()?;
+    judge_metric_count(header.metrics)?;
+    for index in 0..header.metrics as usize {
+        header.kinds[index] = fields.number()?;
+        judge_type(&header.kinds, index)?;
+        header.values[index] = fields.number()?;
+    }
+    Ok(())
+}
+
+/// "total differs from received + late + lost"
+fn judge_sum(header: &Header) -> Result<(), u64> {
+    let parts = [header.received, header.late, header.lost];
+    if u128::from(header.total) != parts.iter().map(|part| u128::from(*part)).sum() {
+        return Err(SUM);
+    }
+    Ok(())
+}
+
+fn judge_metric_count(count: u64) -> Result<(), u64> {
+    if count > MOST_METRICS as u64 {
+        return Err(COUNT_OR_TYPE);
+    }
+    Ok(())
+}
+
+fn judge_type(kinds: &[u64], index: usize) -> Result<(), u64> {
+    let rises = index == 0 || kinds[index - 1] < kinds[index];
+    if !rises || !TYPES.contains(&kinds[index]) {
+        return Err(COUNT_OR_TYPE);
+    }
+    Ok(())
+}
+
+/// "An entry: object number (8 bytes, high first, at most 2^62 - 1), status (1 byte: 0 received, 1 late, 2 not received,
+/// 3 partial), three zero bytes, age in microseconds at the timestamp (4 bytes; 0 where status is 2, any value otherwise)."
+fn read_record(record: &[u8]) -> Result<Entry, u64> {
+    let entry = Entry { object: high_first(&record[..8]), status: u64::from(record[8]), age: high_first(&record[12..]) };
+    let age_obeys = entry.status != 2 || entry.age == 0;
+    if entry.object > LARGEST || entry.status > 3 || record[9..12] != [0, 0, 0] || !age_obeys {
+        return Err(ENTRY);
+    }
+    Ok(entry)
+}
+
+/// Every record by itself, and "Object numbers rise strictly."
+fn judge_records(records: &[u8]) -> Result<(), u64> {
+    let mut earlier = None;
+    for record in records.chunks(RECORD) {
+        let object = Some(read_record(record)?.object);
+        if object <= earlier {
+            return Err(ENTRY);
+        }
+        earlier = object;
+    }
+    Ok(())
+}
+
+/// "The entries come back as a part of the caller's own bytes": where it starts, and its length. "A refused read hands back
+/// an empty part", at the end.
+pub fn find_entries(bytes: &[u8]) -> (usize, usize) {
+    let start = read_report(bytes).map_or(bytes.len(), |(_, start)| start);
+    (start, bytes.len() - start)
+}
+
+/// One entry of that part, judged by itself.
+pub fn read_entry(entries: &[u8], index: usize) -> Result<Entry, u64> {
+    let start = index.checked_mul(RECORD).ok_or(ENDS)?;
+    let end = start.checked_add(RECORD).ok_or(ENDS)?;
+    read_record(entries.get(start..end).ok_or(ENDS)?)
+}
+
+/// "The writer takes a header and 0 to 256 entry records." Gives the report's length, and how many records were kept.
+pub fn write_report(buffer: &mut [u8], header: &Header, records: &[u8]) -> Result<(usize, usize), u64> {
+    judge_header(header)?;
+    judge_given_records(records)?;
+    let start = header_bytes(header);
+    // "the smallest permitted output" has no entry; an entry count up to 50 takes one byte
+    let free = buffer.len().checked_sub(start.len() + 1).ok_or(NO_ROOM)?;
+    // "Then it keeps the longest run of last records, at most 50, that fits. Totals stay as given."
+    let kept = (records.len() / RECORD).min(MOST_ENTRIES).min(free / RECORD);
+    let mut bytes = start;
+    append(&mut bytes, kept as u64);
+    bytes.extend_from_slice(&records[records.len() - kept * RECORD..]);
+    Ok((put_bytes(buffer, 0, &bytes)?, kept))
+}
+
+/// "numbers (5; metrics beyond the count or the limit are not looked at), the sum (11), metric count and types (10)"
+fn judge_header(header: &Header) -> Result<(), u64> {
+    let looked_at = header.metrics.min(MOST_METRICS as u64) as usize;
+    judge_numbers(&[header.timestamp, header.interval, header.total, header.received, header.late, header.lost, header.metrics])?;
+    judge_numbers(&header.kinds[..looked_at])?;
+    judge_numbers(&header.values[..looked_at])?;
+    if header.average < SMALLEST_AVERAGE || header.average > LARGEST_AVERAGE {
+        return Err(TOO_LARGE);
+    }
+    judge_sum(header)?;
+    judge_metric_count(header.metrics)?;
+    (0..looked_at).try_for_each(|index| judge_type(&header.kinds, index))
+}
+
+/// "an entry length that is no multiple of 16 (12), more than 256 records (10), each record (12)"
+fn judge_given_records(records: &[u8]) -> Result<(), u64> {
+    if records.len() % RECORD != 0 {
+        return Err(ENTRY);
+    }
+    if records.len() / RECORD > MOST_RECORDS {
+        return Err(COUNT_OR_TYPE);
+    }
+    judge_records(records)
+}
+
+/// The header up to the entry count.
+fn header_bytes(header: &Header) -> Vec<u8> {
+    let mut bytes = Vec::new();
+    let summary = [header.timestamp, header.interval, header.total, header.received, header.late, header.lost];
+    for number in summary.iter().chain(&[stored(header.average), header.metrics]) {
+        append(&mut bytes, *number);
+    }
+    for index in 0..header.metrics as usize {
+        append(&mut bytes, header.kinds[index]);
+        append(&mut bytes, header.values[index]);
+    }
+    bytes
+}
