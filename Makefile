@@ -1,24 +1,39 @@
-# make test: the gate, exactly as it runs before a merge. make run: the example program. make host: the archive for C.
-.PHONY: help test run host
+# The two commands of README.md are `make test` and `make run`; the others show the library from outside.
+.PHONY: help test run host compare bench picture
 
 CFLAGS = -std=c11 -Wall -Wextra -Werror -O2 -Iinclude
 ARCHIVE = target/staticlib/libhost.a
+PAPER = target/paper/paper
+
+# How many inputs `make compare` makes for the replay program, and how many rounds of calls for the archive.
+INPUTS = 3400
+ROUNDS = 20000
 
 help:
-	@echo 'make test   check layout and documents, prove every crate, try every must-fail edit, run every program'
-	@echo 'make run    prove and run the example program: published and settled examples, one line each'
-	@echo 'make host   prove and build the archive for hosts in C, hold the header to it, and run the example room'
+	@echo 'make test     the gate: layout, documents, examples, comparisons, every proof, every must-fail edit, every program'
+	@echo 'make run      prove the replay program and replay the bundled hearing: index, result and cause of each record'
+	@echo 'make picture  draw the bundled hearing and its answers as examples/hearing.svg'
+	@echo 'make host     prove and build the archive for hosts in C, hold the header to it, and run the example room'
+	@echo 'make compare  compare the program and the archive with a second implementation that was written from the papers'
+	@echo 'make bench    compare the archive with plain C and time both; no time is judged'
 
 test:
 	@.ci/run
 
 run:
-	@echo 'Proving the libraries and the program vectors. The first time this takes some minutes; what is proved says so.'
-	@rt check vectors
+	@echo 'Proving the replay program and what it stands on. The first time this takes some minutes; what is proved says so.'
+	@rt check replay
 	@echo
-	@echo 'Running target/bin/vectors: RFC 9000 and document 01, their examples on numbers and frames, one line for each call.'
+	@echo 'Replaying examples/hearing.trace: index, result (0 accepted, else the refusal), cause (0 nothing is due).'
 	@echo
-	@target/bin/vectors
+	@target/bin/replay < examples/hearing.trace
+
+picture:
+	@rt check replay
+	@target/bin/replay < examples/hearing.trace > target/hearing.lines
+	@python3 tools/draw-hearing examples/hearing.trace target/hearing.lines > target/hearing.svg
+	@mv target/hearing.svg examples/hearing.svg
+	@echo 'picture: examples/hearing.svg'
 
 host:
 	@rt staticlib host
@@ -33,3 +48,25 @@ host:
 	@echo 'room: it printed what examples/room.expected says'
 	@echo
 	@cat target/host/room.out
+
+compare:
+	@rt check replay
+	@rt staticlib host
+	@mkdir -p target/paper
+	@rustc -O --edition 2021 --cfg archive -L target/staticlib -o $(PAPER) tools/paper/main.rs
+	@echo
+	@echo 'The examples of document 01 and RFC 9000, by the second implementation'
+	@$(PAPER) examples
+	@echo
+	@echo 'The replay program and the second implementation'
+	@$(PAPER) compare-replay target/bin/replay $(INPUTS)
+	@echo
+	@echo 'The archive and the second implementation'
+	@$(PAPER) compare-archive $(ROUNDS)
+
+bench:
+	@rt staticlib host
+	@mkdir -p target/bench
+	@echo
+	@$(CC) $(CFLAGS) bench/*.c $(ARCHIVE) -o target/bench/bench
+	@target/bench/bench

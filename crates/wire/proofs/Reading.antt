@@ -1,13 +1,15 @@
 -- How a reader's proof follows its code: what a field answers, and one step for each `let .. else` and each test.
 -- Assumes nothing.
-use Prim.Native.Nat.{ℕ, _+_, _-_, _*_, _%_, _/_, _≤_, _<_}
-use mathlib.Core.Path.{_≡_, refl, sym, ap, _∙_}
+use Prim.Native.Nat.{ℕ, suc, _+_, _-_, _*_, _%_, _/_, _≤_, _<_}
+use mathlib.Core.Path.{_≡_, refl, sym, ap, ap₂, _∙_}
 use mathlib.Core.Bool.{Bool, true, false}
-use mathlib.Core.List.{List}
+use mathlib.Core.List.{List, [], _∷_}
 use native.Mathlib.Omega.{arith}
 use borrow.Author.Tests.{le-leb, lt-leb}
 use lib.ListN.{length, getD, take, drop}
 use lib.Pow.{pow-pos}
+use lib.Seq.{drop-cons}
+use native.Mathlib.Nat.{mod-eq-of-lt}
 use Rattle.wire.specs.Bytes.{pick, be}
 use Rattle.wire.specs.Fields.{readFixed, field}
 use Rattle.wire.specs.Numbers.{lenOf, roomOf, largestOf, readForm, readNumber}
@@ -65,3 +67,15 @@ number-ends s at h =
 pub number-form : (s : List ℕ) (at k : ℕ) {n : Number} → getD s at 0 / 64 ≡ k → n ≡ readForm k s at → n ≡ readNumber s at
 unfolding readNumber
 number-form s at k h e = rw h e
+
+-- a number of one byte is that byte: big and len are what the table says of code 0
+pub number-short : (s : List ℕ) (at big len v : ℕ) → at < length s → big ≡ largestOf 0 → len ≡ lenOf 0 → v ≡ getD s at 0 → v ≤ big
+    → Value v (at + len) ≡ readNumber s at
+number-short s at big len v l g f e h =
+    let d : drop at s ≡ getD s at 0 ∷ drop (suc at) s = drop-cons s at 0 l in
+    let o : at + 1 - at ≡ 1 = omega arith in
+    let t : take (at + 1 - at) (drop at s) ≡ getD s at 0 ∷ [] = ap₂ (λ (n : ℕ) (xs : List ℕ). take n xs) o d in
+    let z : v ≡ 0 * 256 + getD s at 0 = omega arith in
+    let j : v ≡ be 0 (take (at + 1 - at) (drop at s)) = z ∙ sym (ap (be 0) t) in
+    let m : v % (big + 1) ≡ v = mod-eq-of-lt (omega arith) in
+    number-form s at 0 (omega arith) (rw f (ap (λ (n : ℕ). Value n (at + 1)) (sym m) ∙ form-value 0 1 s at refl (fixed-value 1 s at v (omega arith) j) big g refl))

@@ -4,7 +4,7 @@
 ghost use mathlib.Core.Path.{_≡_};
 ghost use mathlib.Core.List.{[], _∷_};
 ghost use Prim.Native.Nat.{_+_, _<_, _≤_};
-ghost use lib.ListN.{length};
+ghost use lib.ListN.{length, getD};
 ghost use mathlib.Core.Bool.{true};
 ghost use Rattle.wire.specs.Bytes.{be, splice};
 ghost use Rattle.wire.specs.Fields.{readFixed, fixed, placed, written};
@@ -228,6 +228,20 @@ fn read_form(s: &[u8], at: usize, code: usize) -> Number
     }
 }
 
+// Reads the number at at, whose first byte gives a code from 1 on.
+fn read_longer(s: &[u8], at: usize) -> Number
+    requires { ⌜ (at < length (now s)) × (64 ≤ getD (now s) at 0) ⌝ }
+    ensures { λ r. ⌜ r ≡ readNumber (now (s .entry)) at ⌝ }
+{
+    let code = s[at] / 64;
+    // Each arm has its length as a constant, so that it compiles to a few loads.
+    match code {
+        1 => read_form(s, at, 1),
+        2 => read_form(s, at, 2),
+        _ => read_form(s, at, 3),
+    }
+}
+
 // Reads the number at at. A form that is longer than it need be is accepted.
 pub fn read_number(s: &[u8], at: usize) -> Number
     ensures { λ r. ⌜ r ≡ readNumber (now (s .entry)) at ⌝ }
@@ -235,14 +249,16 @@ pub fn read_number(s: &[u8], at: usize) -> Number
     if s.len() <= at {
         return Number::Ends;
     }
-    let code = s[at] / 64;
-    // Each arm has its length as a constant, so that it compiles to a few loads.
-    match code {
-        0 => read_form(s, at, 0),
-        1 => read_form(s, at, 1),
-        2 => read_form(s, at, 2),
-        _ => read_form(s, at, 3),
+    // Most numbers take one byte: that is little code, and callers have it in line.
+    let first = wide(s[at]);
+    let short = form_at(0);
+    if first <= short.largest {
+        return Number::Value {
+            value: first,
+            next: at + short.len,
+        };
     }
+    read_longer(s, at)
 }
 
 // Writes v at at in the form of the code.

@@ -1,68 +1,41 @@
--- `wire::read_number` meets its contract: the arm taken is the code that the first byte gives.
+-- `wire::read_number` meets its contract: a byte up to the largest value of code 0 is the number, and longer ones are read by their code.
 -- Assumes nothing.
 use native.Mathlib.Omega.{arith}
-use Rattle.wire.proofs.Reading.{number-ends, number-form}
 use borrow.Author.Needs.{needs}
+use Rattle.wire.proofs.Reading.{number-ends, number-short}
 use Rattle.wire.proofs.read_number.Statement.{statement}
 use Rattle.wire.proofs.read_number.Tie as tie
-use Rattle.wire.proofs.read_number.Reads as reads
-use Rattle.wire.proofs.read_number.Lts as lts
-use Rattle.wire.proofs.read_form.Reads as read-form-reads
 
--- src/lib.rt:236:9
 returns : tie.Need-returns
 returns c = number-ends _ _ (c .if1 .taken)
 
--- src/lib.rt:238:16
-shared-slice-read-code : tie.Need-shared-slice-read-code
-shared-slice-read-code c = search needs
+shared-slice-read-wide : tie.Need-shared-slice-read-wide
+shared-slice-read-wide c = search needs
 
--- src/lib.rt:241:14
-read-form-requires : tie.Need-read-form-requires
-read-form-requires c κs = search needs
+wide-requires : tie.Need-wide-requires
+wide-requires c κs = search needs
 
--- src/lib.rt:242:14
-read-form-requires-2 : tie.Need-read-form-requires-2
-read-form-requires-2 c κs = search needs
+form-at-requires : tie.Need-form-at-requires
+form-at-requires c κs = search needs
 
--- src/lib.rt:243:14
-read-form-requires-3 : tie.Need-read-form-requires-3
-read-form-requires-3 c κs = search needs
+add-t9 : tie.Need-add-t9
+add-t9 c = omega (arith, c .before .before .before .form-at .ensures .0)
 
--- src/lib.rt:244:14
-read-form-requires-4 : tie.Need-read-form-requires-4
-read-form-requires-4 c κs = search needs
-
--- src/lib.rt:232:1
 returns-2 : tie.Need-returns-2
-returns-2 c = number-form _ _ 0 (c .before .match .keys1) (c .read-form .ensures)
+returns-2 c =
+    let f = c .before .before .before in
+    let w = f .before in
+    number-short _ _ _ _ _ (w .before .before .if1 .left) (f .form-at .ensures .1) (f .form-at .ensures .0) (w .wide .ensures) (c .before .if2 .taken)
 
--- src/lib.rt:232:1
+read-longer-requires : tie.Need-read-longer-requires
+read-longer-requires c κs =
+    let f = c .before .before in
+    (f .before .before .before .if1 .left, omega (arith, c .if2 .left, f .form-at .ensures .1, f .before .wide .ensures))
+
 returns-3 : tie.Need-returns-3
-returns-3 c = number-form _ _ 1 (c .before .match .keys2) (c .read-form2 .ensures)
-
--- src/lib.rt:232:1
-returns-4 : tie.Need-returns-4
-returns-4 c = number-form _ _ 2 (c .before .match .keys3) (c .read-form3 .ensures)
-
--- src/lib.rt:232:1
-returns-5 : tie.Need-returns-5
-returns-5 c =
-    let r = c .before .match .rest in
-    let a = c .before .before .before .before .before .args in
-    number-form _ _ 3 (omega (arith, r .1, r .0 .1, r .0 .0 .1, c .before .before .shared-slice-known2 .given (a .at))) (c .read-form4 .ensures)
+returns-3 c = search needs
 
 pub read-number-spec : {M : Type 1} → statement M
 read-number-spec =
     tie.close
-    (tie.spec
-    returns
-    shared-slice-read-code
-    read-form-requires
-    read-form-requires-2
-    read-form-requires-3
-    read-form-requires-4
-    returns-2
-    returns-3
-    returns-4
-    returns-5)
+    (tie.spec returns shared-slice-read-wide wide-requires form-at-requires add-t9 returns-2 read-longer-requires returns-3)
