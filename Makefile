@@ -1,5 +1,5 @@
 # The two commands of README.md are `make test` and `make run`; the others show the library from outside.
-.PHONY: help test run host compare bench picture
+.PHONY: help test run picture host paper compare bench
 
 CFLAGS = -std=c11 -Wall -Wextra -Werror -O2 -Iinclude
 ARCHIVE = target/staticlib/libhost.a
@@ -15,7 +15,7 @@ help:
 	@echo 'make picture  draw the bundled hearing and its answers as examples/hearing.svg'
 	@echo 'make host     prove and build the archive for hosts in C, hold the header to it, and run the example room'
 	@echo 'make compare  compare the program and the archive with a second implementation that was written from the papers'
-	@echo 'make bench    compare the archive with plain C and time both; no time is judged'
+	@echo 'make bench    compare the archive with plain C and time both, and the replay program beside the second implementation; no time is judged'
 
 test:
 	@.ci/run
@@ -49,12 +49,15 @@ host:
 	@echo
 	@cat target/host/room.out
 
-compare:
+# The second implementation, linked with the archive.
+paper:
 	@rt check replay
 	@rt staticlib host
 	@mkdir -p target/paper
 	@rustc -O --edition 2021 --cfg archive -L target/staticlib -o $(PAPER) tools/paper/main.rs
 	@echo
+
+compare: paper
 	@echo 'The examples of document 01 and RFC 9000, by the second implementation'
 	@$(PAPER) examples
 	@echo
@@ -64,9 +67,13 @@ compare:
 	@echo 'The archive and the second implementation'
 	@$(PAPER) compare-archive $(ROUNDS)
 
-bench:
-	@rt staticlib host
+bench: paper
 	@mkdir -p target/bench
-	@echo
 	@$(CC) $(CFLAGS) bench/*.c $(ARCHIVE) -o target/bench/bench
 	@target/bench/bench
+	@$(PAPER) trace-large > target/bench/large.trace
+	@echo
+	@echo 'A trace of a million records, 24 MB: the replay program, then the second implementation'
+	@bash -c 'TIMEFORMAT="replay  %R s"; time target/bin/replay < target/bench/large.trace > target/bench/replay.lines'
+	@bash -c 'TIMEFORMAT="paper   %R s"; time $(PAPER) replay < target/bench/large.trace > target/bench/paper.lines'
+	@cmp target/bench/replay.lines target/bench/paper.lines

@@ -92,6 +92,16 @@ size-pos s p h =
 pub size-none : (s : Seen) (p : ℕ) → size s p ≡ 0 → top s p ≡ 0
 size-none s p e = split (top s p) 0 (λ h. omega arith) (λ h. omega (arith, size-pos s p h))
 
+-- below the place of number 0 there is no range
+pub nothing-below : {s : Seen} → Begun s → (p : ℕ) → p ≤ 1024 - s .end → top s p ≡ 0
+nothing-below {s} b p l =
+    let w : ℕ = valueOf (s .window) in
+    split (top s p) 0 (λ h. omega arith)
+    (λ h.
+    let r = run-says false p w (missing s p) refl in
+    let f : true ≡ false = sym (not-false-true (isSet w (top s p - 1)) (r .ends (omega arith))) ∙ none-says (1024 - s .end) w (b .none) (top s p - 1) (omega arith) in
+    let z : _≡_ {A = ℕ} 0 1 = cc in absurd (omega arith))
+
 -- the first range starts at L
 pub first-top : {s : Seen} → Begun s → top s 1024 ≡ 1024
 first-top {s} b =

@@ -37,6 +37,8 @@ impl Seen {
         requires { ⌜ (seenConsistent self ≡ true) × (0 < self .end) × (delay ≤ limit) × (room < 2 ^ 63) ⌝ }
         ensures { λ r. ⌜ r ≡ kept self delay room ⌝ }
     {
+        // No place below that of number 0 is marked.
+        let none_below = numbers::less(1024, self.end);
         let first = range_below(&self.window.words, 1024);
         // The bytes of the frame so far, without its range count.
         let mut bytes = 1
@@ -48,7 +50,7 @@ impl Seen {
         }
         let mut count: u64 = 1;
         let mut low = 1024 - first.size;
-        while 0 < low {
+        while none_below < low {
             let range = range_below(&self.window.words, low);
             if range.size == 0 {
                 return count;

@@ -3,11 +3,11 @@ use mathlib.Core.Path.{_≡_, refl, sym, ap, _∙_}
 use mathlib.Core.Bool.{Bool, true, false}
 use mathlib.Core.Logic.{⊎-elim}
 use Prim.Native.Nat.{ℕ, zero, suc, _+_, _-_, _*_, _/_, _%_, _^_, _≤_, _<_, suc-le-suc}
-use native.Mathlib.Nat.{not-suc-le-zero, le-of-suc-le-suc, zero-lt-suc, eq-zero-or-pos, mod-lt, pow-suc}
+use native.Mathlib.Nat.{not-suc-le-zero, le-of-suc-le-suc, lt-of-not-le, zero-lt-suc, eq-zero-or-pos, add-zero, zero-mul, one-mul, mul-le-mul-right, mod-lt, mul-mod-left, pow-suc}
 use native.Mathlib.Omega.{arith}
 use borrow.Author.Tests.{eq-eqb, ne-eqb, eqb-true, eqb-false}
 use lib.Count.{trailingZeros, leadingZeros, under, trailing-of-zero, leading-length, leading-top, leading-of-zero}
-use lib.Pow.{pow-pos, shr-lt}
+use lib.Pow.{pow-pos, pow-mono, shr-lt, mod-pow-add}
 use Rattle.window.specs.Words.{bit, otherThan}
 use Rattle.window.specs.Window.{isSet}
 use Rattle.window.proofs.Bits.{bit-zero, bit-suc, bit-add, bit-not, bit-lt, bit-above, bit-low, bit-up, bit-top}
@@ -116,3 +116,22 @@ module _ (b : Bool) (x k : ℕ) (h : x < 2 ^ 64) (i : k < 64) where
   run-ends l =
       let t = runIn b x k in
       other-mark b x (k - t) h (omega arith) (sym (shown t l) ∙ under-zeros 64 _ (mod-lt _ (pow-pos 64)) (omega arith))
+
+  -- what is left of the word is 0 exactly where no place from k down has the other mark
+  pub some-other : ((otherThan b x * 2 ^ (63 - k)) % 2 ^ 64 ≡ 0 → ⊥) → runIn b x k ≤ k
+  some-other f =
+      let y : ℕ = otherThan b x * 2 ^ (63 - k) in
+      let m : ℕ = y / 2 ^ (63 - k) % 2 ^ (k + 1) in
+      let p : k + 1 + (63 - k) ≡ 64 = omega arith in
+      let e : y % 2 ^ 64 ≡ m * 2 ^ (63 - k)
+      = ap (λ (n : ℕ). y % 2 ^ n) (sym p) ∙ mod-pow-add y (k + 1) (63 - k)
+      ∙ ap (λ (n : ℕ). m * 2 ^ (63 - k) + n) (mul-mod-left (otherThan b x) (2 ^ (63 - k))) ∙ add-zero (m * 2 ^ (63 - k)) in
+      let some : 0 < m = ⊎-elim (λ z. absurd (f (e ∙ ap (λ (n : ℕ). n * 2 ^ (63 - k)) z ∙ zero-mul (2 ^ (63 - k))))) (λ l. l) (eq-zero-or-pos m) in
+      let least : 1 * 2 ^ (63 - k) ≤ m * 2 ^ (63 - k) = mul-le-mul-right (2 ^ (63 - k)) some in
+      let t = leading-top 64 (y % 2 ^ 64) (⊎-elim (λ z. absurd (f z)) (λ l. l) (eq-zero-or-pos (y % 2 ^ 64))) (mod-lt y (pow-pos 64)) in
+      let high : 63 - k < suc (t .0)
+      = lt-of-not-le (λ (g : suc (t .0) ≤ 63 - k). let u = pow-mono g in omega (arith, t .3, least, e, one-mul (2 ^ (63 - k)))) in
+      omega (arith, t .1)
+
+  pub no-other : (otherThan b x * 2 ^ (63 - k)) % 2 ^ 64 ≡ 0 → k < runIn b x k
+  no-other e = let z : runIn b x k ≡ 64 = ap (leadingZeros 64) e ∙ leading-of-zero 64 in omega arith

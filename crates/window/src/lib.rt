@@ -36,9 +36,9 @@ fn run_within(words: &[u64; 16], n: u64, marked: bool) -> u64
         let k = (left - 1) % 64;
         let word = words[i];
         let other = other_than(marked, word);
-        let t = u64::leading_zeros(other << (63 - k)) as u64;
-        if t <= k {
-            return n - left + t;
+        let rest = other << (63 - k);
+        if rest != 0 {
+            return n - left + u64::leading_zeros(rest) as u64;
         }
         left = left - (k + 1);
     }
