@@ -108,6 +108,9 @@ first-top {s} b =
     let z : runBelow false (suc 1023) (valueOf (s .window)) ≡ 0 = run-off false 1023 (valueOf (s .window)) (λ e. let f : false ≡ true = sym e ∙ b .last in let g : _≡_ {A = ℕ} 0 1 = cc in omega arith) in
     omega arith
 
+pub first-is : {s : Seen} → Begun s → (n : ℕ) → n ≡ runBelow true 1024 (valueOf (s .window)) → n ≡ size s 1024
+first-is {s} b n e = e ∙ ap (λ (p : ℕ). runBelow true p (valueOf (s .window))) (sym (first-top b))
+
 -- the lower end of a range: its place is in the window, and the place below it is not marked
 pub record Bottom (s : Seen) (p : ℕ) : Type 0 where
   pub inside : 1024 ≤ p + s .end

@@ -5,7 +5,7 @@ ghost use Prim.Native.Nat.{_-_, _^_, _≤_, _<_};
 ghost use lib.ListN.{length};
 ghost use Rattle.wire.specs.Numbers.{limit};
 ghost use Rattle.wire.specs.Bytes.{splice};
-ghost use Rattle.window.specs.Window.{lentValue, runBelow};
+ghost use Rattle.window.specs.Window.{valueOf, lentValue, runBelow};
 ghost use Rattle.receiver.specs.Record.{seenConsistent};
 ghost use Rattle.receiver.specs.Write.{numberOfRanges, frame, kept, written, writeAnswer, writeBytes};
 use crate::Micros;
@@ -32,24 +32,27 @@ fn range_below(words: &[u64; 16], place: u64) -> Range
 }
 
 impl Seen {
-    // How many of the newest ranges fit the room: 0 where not even the first does.
-    fn kept(self, delay: u64, room: usize) -> u64
-        requires { ⌜ (seenConsistent self ≡ true) × (0 < self .end) × (delay ≤ limit) × (room < 2 ^ 63) ⌝ }
+    // How many numbers the newest range has: it ends with L, whose place is the last.
+    fn first_size(self) -> u64
+        ensures { λ r. ⌜ r ≡ runBelow true 1024 (valueOf (self .window)) ⌝ }
+    {
+        window::run_below(&self.window.words, 1024, true)
+    }
+
+    // How many of the newest ranges fit the room: 0 where not even the first does, which has `first` numbers.
+    fn kept(self, first: u64, delay: u64, room: usize) -> u64
+        requires { ⌜ (seenConsistent self ≡ true) × (0 < self .end) × (delay ≤ limit) × (room < 2 ^ 63) × (first ≡ runBelow true 1024 (valueOf (self .window))) ⌝ }
         ensures { λ r. ⌜ r ≡ kept self delay room ⌝ }
     {
         // No place below that of number 0 is marked.
         let none_below = numbers::less(1024, self.end);
-        let first = range_below(&self.window.words, 1024);
         // The bytes of the frame so far, without its range count.
-        let mut bytes = 1
-            + wire::width(self.end - 1)
-            + wire::width(delay)
-            + wire::width(first.size - 1);
+        let mut bytes = 1 + wire::width(self.end - 1) + wire::width(delay) + wire::width(first - 1);
         if room < bytes + 1 {
             return 0;
         }
         let mut count: u64 = 1;
-        let mut low = 1024 - first.size;
+        let mut low = 1024 - first;
         while none_below < low {
             let range = range_below(&self.window.words, low);
             if range.size == 0 {
@@ -67,18 +70,17 @@ impl Seen {
     }
 
     // Writes the frame with the count newest ranges, and answers its length.
-    fn store(self, delay: u64, count: u64, buf: &mut [u8]) -> usize
-        requires { ⌜ (seenConsistent self ≡ true) × (0 < self .end) × (delay ≤ limit) × (0 < count) × (count ≤ numberOfRanges self) × (length (frame self delay count) ≤ length (now buf)) ⌝ }
+    fn store(self, first: u64, delay: u64, count: u64, buf: &mut [u8]) -> usize
+        requires { ⌜ (seenConsistent self ≡ true) × (0 < self .end) × (delay ≤ limit) × (0 < count) × (count ≤ numberOfRanges self) × (length (frame self delay count) ≤ length (now buf)) × (first ≡ runBelow true 1024 (valueOf (self .window))) ⌝ }
         ensures { λ r. ⌜ (r ≡ length (frame self delay count)) × (now (buf .exit) ≡ splice (now (buf .entry)) 0 (frame self delay count)) ⌝ }
     {
-        let first = range_below(&self.window.words, 1024);
         // Type 02, largest, delay, range count, first range (RFC 9000 19.3).
-        let fields = [2, self.end - 1, delay, count - 1, first.size - 1];
+        let fields = [2, self.end - 1, delay, count - 1, first - 1];
         let Put::Done { next } = wire::put_numbers(buf, 0, &fields) else {
             return 0;
         };
         let mut at = next;
-        let mut low = 1024 - first.size;
+        let mut low = 1024 - first;
         let mut left = count - 1;
         while 0 < left {
             let range = range_below(&self.window.words, low);
@@ -143,11 +145,12 @@ impl Receiver {
             return Wrote::refused(8, self);
         }
         let delay = numbers::less(time.0, seen.arrived.0) / 8;
-        let count = seen.kept(delay, buf.len());
+        let first = seen.first_size();
+        let count = seen.kept(first, delay, buf.len());
         if count == 0 {
             return Wrote::refused(9, self);
         }
-        let length = seen.store(delay, count, buf);
+        let length = seen.store(first, delay, count, buf);
         let next = self.written();
         Wrote {
             result: 0,

@@ -61,14 +61,19 @@ returns-3 c =
 less-requires : tie.Need-less-requires
 less-requires c κs = search needs
 
+first-size-requires : tie.Need-first-size-requires
+first-size-requires c κs = search needs
+
 kept-requires : tie.Need-kept-requires
 kept-requires c κs =
-    let k = c .before .before .before .before in
+    let l = c .before in
+    let k = l .before .before .before .before in
     let a = entry k .args in (
       consistent-seen _ (whole k),
-      some-end (c .before .if3 .left),
-      small-delay (a .self) (a .time) (a .buf .now) (whole k) (timely k) (c .before .if3 .left) (c .less .ensures),
+      some-end (l .before .if3 .left),
+      small-delay (a .self) (a .time) (a .buf .now) (whole k) (timely k) (l .before .if3 .left) (l .less .ensures),
       omega (arith, entry k .good .1 .1 .0 .1),
+      c .first-size .ensures,
     )
 
 refused-requires-4 : tie.Need-refused-requires-4
@@ -77,7 +82,7 @@ refused-requires-4 c κs = search needs
 returns-4 : tie.Need-returns-4
 returns-4 c =
     let i = c .before in
-    let l = i .before .before in
+    let l = i .before .before .before in
     let k = l .before .before .before .before in
     let a = entry k .args in
     let w = wrote-none (a .self) (a .time) (a .buf .now) (whole k) (timely k) (l .before .if3 .left) (l .less .ensures) (i .before .kept .ensures) (i .if4 .taken) in
@@ -85,11 +90,11 @@ returns-4 c =
 
 store-requires : tie.Need-store-requires
 store-requires c κs =
-    let l = c .before .before .before in
+    let l = c .before .before .before .before in
     let k = l .before .before .before .before in
     let a = entry k .args in
     let m = some-kept (a .self) (a .time) (a .buf .now) (whole k) (timely k) (l .before .if3 .left) (l .less .ensures) (c .before .before .kept .ensures) (c .before .if4 .left) in
-    (consistent-seen _ (whole k), some-end (l .before .if3 .left), small-delay (a .self) (a .time) (a .buf .now) (whole k) (timely k) (l .before .if3 .left) (l .less .ensures), m .0, m .1, m .2)
+    (consistent-seen _ (whole k), some-end (l .before .if3 .left), small-delay (a .self) (a .time) (a .buf .now) (whole k) (timely k) (l .before .if3 .left) (l .less .ensures), m .0, m .1, m .2, c .before .before .before .first-size .ensures)
 
 written-requires : tie.Need-written-requires
 written-requires c κs = search needs
@@ -100,7 +105,7 @@ same-length c = search needs
 returns-5 : tie.Need-returns-5
 returns-5 c =
     let s = c .before .before .before in
-    let l = s .before .before .before .before in
+    let l = s .before .before .before .before .before in
     let k = l .before .before .before .before in
     let a = entry k .args in
     wrote-frame (a .self) (a .time) (a .buf .now) (whole k) (timely k) (l .before .if3 .left) (l .less .ensures) (s .before .before .before .kept .ensures) (s .before .before .if4 .left) (s .store .ensures .0) (s .store .ensures .1) (c .written .ensures)
@@ -118,6 +123,7 @@ write-spec =
     refused-requires-3
     returns-3
     less-requires
+    first-size-requires
     kept-requires
     refused-requires-4
     returns-4

@@ -8,16 +8,16 @@ use mir.Val.{Fits}
 use mir.Syntax.{w64}
 use lib.ListN.{getD}
 use Rattle.window.proofs.Sixteen.{Sixteen}
-use Rattle.receiver.proofs.Ranges.{Begun, begun, missing, size, ranged, nothing-below}
+use Rattle.receiver.proofs.Ranges.{Begun, begun, missing, size, ranged, first-is, nothing-below}
 use Rattle.receiver.proofs.Fitting.{narrow, Counted, count-all, first-size, none-fits, first-fits, all-fit, step-sizes, no-more-fit, one-more-fits}
 use Rattle.receiver.proofs.Seen.kept.Statement.{statement}
 use Rattle.receiver.proofs.Seen.kept.Tie as tie
 
 abbrev Inv-loop : tie.InvT-loop
-Inv-loop delay room self none bytes₀ count₀ low₀ bytes count low = Counted self delay room low bytes count
+Inv-loop first delay room self none bytes₀ count₀ low₀ bytes count low = Counted self delay room low bytes count
 
 abbrev μ-loop : tie.MeasureT-loop
-μ-loop delay room self none bytes₀ count₀ low₀ bytes count low = low
+μ-loop first delay room self none bytes₀ count₀ low₀ bytes count low = low
 
 -- what the code requires of the record
 started : (c : tie.Start Inv-loop μ-loop) → Begun (c .args .t1)
@@ -25,31 +25,30 @@ started c = begun (c .args .t1) (c .pre .0) (c .pre .1)
 
 -- the entry, from the loop's head
 abbrev origin : tie.At-loop Inv-loop μ-loop → tie.Start Inv-loop μ-loop
-origin c = c .before .before .before .before .before .before .before .before .before .before .before
+origin c = c .before .before .before .before .before .before
 
 -- the words that are lent are the record's own
 own : (c : tie.Start Inv-loop μ-loop) → Sixteen (c .args .t1 .window .words)
 own c = record { long = search needs; words = λ i. let f : Fits w64 (getD (c .args .t1 .window .words) i 0) = search needs in f .fits }
 
 -- the first range, and the one that a turn finds
-found : (c : tie.After-range-below Inv-loop μ-loop)
-    → (c .range-below .result .missing ≡ missing (c .before .before .before .before .args .t1) 1024) × (c .range-below .result .size ≡ size (c .before .before .before .before .args .t1) 1024)
-found c = let s = c .before .before .before .before in ranged (s .args .t1) (own s) 1024 _ _ (c .range-below .ensures)
+found : (c : tie.Start Inv-loop μ-loop) → c .args .first ≡ size (c .args .t1) 1024
+found c = first-is (started c) (c .args .first) (c .pre .4)
 
 -- the loop's head, from a turn that found a range, and what the range takes
 abbrev head : tie.Else2 Inv-loop μ-loop → tie.At-loop Inv-loop μ-loop
 head c = c .before .before .before .before .before .before
 
-another : (c : tie.After-range-below2 Inv-loop μ-loop)
-    → (c .range-below2 .result .missing ≡ missing (origin (c .before .before .before .before) .args .t1) (c .before .before .before .before .loop .low))
-    × (c .range-below2 .result .size ≡ size (origin (c .before .before .before .before) .args .t1) (c .before .before .before .before .loop .low))
+another : (c : tie.After-range-below Inv-loop μ-loop)
+    → (c .range-below .result .missing ≡ missing (origin (c .before .before .before .before) .args .t1) (c .before .before .before .before .loop .low))
+    × (c .range-below .result .size ≡ size (origin (c .before .before .before .before) .args .t1) (c .before .before .before .before .loop .low))
 another c =
     let l = c .before .before .before .before in
-    let o = origin l in ranged (o .args .t1) (own o) (l .loop .low) _ _ (c .range-below2 .ensures)
+    let o = origin l in ranged (o .args .t1) (own o) (l .loop .low) _ _ (c .range-below .ensures)
 
 sizes : (c : tie.Else2 Inv-loop μ-loop)
-    → (0 < c .before .before .range-below2 .result .missing) × (0 < c .before .before .range-below2 .result .size)
-    × (c .before .before .range-below2 .result .missing + c .before .before .range-below2 .result .size ≤ head c .loop .low)
+    → (0 < c .before .before .range-below .result .missing) × (0 < c .before .before .range-below .result .size)
+    × (c .before .before .range-below .result .missing + c .before .before .range-below .result .size ≤ head c .loop .low)
 sizes c =
     let o = origin (head c) in
     let r = another (c .before .before) in
@@ -58,11 +57,8 @@ sizes c =
 less-requires : tie.Need-less-requires Inv-loop μ-loop
 less-requires c κs = search needs
 
-range-below-requires : tie.Need-range-below-requires Inv-loop μ-loop
-range-below-requires c κs = search needs
-
 sub-width : tie.Need-sub-width Inv-loop μ-loop
-sub-width c = omega (arith, c .before .before .before .before .pre .1)
+sub-width c = omega (arith, c .before .pre .1)
 
 width-requires : tie.Need-width-requires Inv-loop μ-loop
 width-requires c κs = search needs
@@ -83,46 +79,45 @@ add-bytes-2 c =
 
 sub-width-2 : tie.Need-sub-width-2 Inv-loop μ-loop
 sub-width-2 c =
-    let r = c .before .before .before in
-    omega (arith, first-size (started (r .before .before .before .before)), found r)
+    let s = c .before .before .before in
+    omega (arith, first-size (started s), found s)
 
 width-requires-3 : tie.Need-width-requires-3 Inv-loop μ-loop
 width-requires-3 c κs = search needs
 
 add-bytes-3 : tie.Need-add-bytes-3 Inv-loop μ-loop
 add-bytes-3 c =
-    let x = narrow _ (c .before .before .before .width .ensures) in
-    let y = narrow _ (c .before .before .width2 .ensures) in
+    let x = narrow _ (c .before .before .width .ensures) in
+    let y = narrow _ (c .before .width2 .ensures) in
     let z = narrow _ (c .width3 .ensures) in
     omega arith
 
 add-if1 : tie.Need-add-if1 Inv-loop μ-loop
 add-if1 c =
-    let x = narrow _ (c .before .before .before .width .ensures) in
-    let y = narrow _ (c .before .before .width2 .ensures) in
+    let x = narrow _ (c .before .before .width .ensures) in
+    let y = narrow _ (c .before .width2 .ensures) in
     let z = narrow _ (c .width3 .ensures) in
     omega arith
 
 returns : tie.Need-returns Inv-loop μ-loop
 returns c =
     let k = c .before in
-    let s = k .before .before .before .before .before .before .before .before in
-    none-fits (started s) (s .pre .2) (found (k .before .before .before .before) .1) (k .before .before .before .width .ensures) (k .before .before .width2 .ensures) (k .width3 .ensures) (c .if1 .taken)
+    let s = k .before .before .before .before in
+    none-fits (started s) (s .pre .2) (found s) (k .before .before .width .ensures) (k .before .width2 .ensures) (k .width3 .ensures) (c .if1 .taken)
 
 sub-low : tie.Need-sub-low Inv-loop μ-loop
 sub-low c =
-    let k = c .before .before in
-    let s = k .before .before .before .before .before .before .before .before in
-    omega (arith, first-size (started s), found (k .before .before .before .before))
+    let s = c .before .before .before .before .before in
+    omega (arith, first-size (started s), found s)
 
 loop-holds : tie.Need-loop-holds Inv-loop μ-loop
 loop-holds c =
-    let k = c .before .before in
-    let s = k .before .before .before .before .before .before .before .before in
-    first-fits (started s) (s .pre .2) (found (k .before .before .before .before) .1) (k .before .before .before .width .ensures) (k .before .before .width2 .ensures) (k .width3 .ensures) (c .before .if1 .left)
+    let k = c .before in
+    let s = k .before .before .before .before in
+    first-fits (started s) (s .pre .2) (found s) (k .before .before .width .ensures) (k .before .width2 .ensures) (k .width3 .ensures) (c .if1 .left)
 
-range-below-requires-2 : tie.Need-range-below-requires-2 Inv-loop μ-loop
-range-below-requires-2 c κs = search needs
+range-below-requires : tie.Need-range-below-requires Inv-loop μ-loop
+range-below-requires c κs = search needs
 
 returns-2 : tie.Need-returns-2 Inv-loop μ-loop
 returns-2 c =
@@ -198,7 +193,7 @@ loop-again c =
 returns-4 : tie.Need-returns-4 Inv-loop μ-loop
 returns-4 c =
     let l = c .before in
-    let f = l .before .before .before .before .before .before .before .before .before .before in
+    let f = l .before .before .before .before .before in
     let o = f .before in
     count-all (started o) (o .args .delay) (o .args .room) (o .pre .2) (l .loop .inv) (nothing-below (started o) (l .loop .low) (omega (arith, c .loop-test .left, f .less .ensures)))
 
@@ -209,7 +204,6 @@ kept-spec =
     Inv-loop
     μ-loop
     less-requires
-    range-below-requires
     sub-width
     width-requires
     add-bytes
@@ -222,7 +216,7 @@ kept-spec =
     returns
     sub-low
     loop-holds
-    range-below-requires-2
+    range-below-requires
     returns-2
     sub-width-3
     width-requires-4

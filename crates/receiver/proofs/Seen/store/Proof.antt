@@ -12,28 +12,28 @@ use Rattle.wire.specs.Bytes.{splice}
 use Rattle.wire.specs.Numbers.{encodeAll}
 use Rattle.receiver.specs.Write.{frame}
 use Rattle.window.proofs.Sixteen.{Sixteen}
-use Rattle.receiver.proofs.Ranges.{Begun, begun, missing, size, ranged, fields}
+use Rattle.receiver.proofs.Ranges.{Begun, begun, missing, size, ranged, first-is, fields}
 use Rattle.receiver.proofs.Fitting.{bytesBelow, first-size}
 use Rattle.receiver.proofs.Storing.{Storing, afresh, first-done, first-stored, stored, step-sizes, pair-done, pair-stored}
 use Rattle.receiver.proofs.Seen.store.Statement.{statement}
 use Rattle.receiver.proofs.Seen.store.Tie as tie
 
 abbrev Inv-loop : tie.InvT-loop
-Inv-loop delay count buf₀ self next at₀ low₀ left₀ buf at low left =
+Inv-loop first delay count buf₀ self next at₀ low₀ left₀ buf at low left =
     (length buf ≡ length buf₀) × Storing self (at₀ + bytesBelow self left₀ low₀) (splice buf₀ at₀ (encodeAll (fields self left₀ low₀))) buf at low left
 
 abbrev μ-loop : tie.MeasureT-loop
-μ-loop delay count buf₀ self next at₀ low₀ left₀ buf at low left = left
+μ-loop first delay count buf₀ self next at₀ low₀ left₀ buf at low left = left
 
 started : (c : tie.Start Inv-loop μ-loop) → Begun (c .args .t1)
 started c = begun (c .args .t1) (c .pre .0) (c .pre .1)
 
 -- the entry, from the first put, and the first put, from the loop's head
 abbrev entry : tie.After-put-numbers Inv-loop μ-loop → tie.Start Inv-loop μ-loop
-entry c = c .before .before .before .before .before .before .before .before
+entry c = c .before .before .before .before
 
-abbrev first-put : tie.After-struct-known2 Inv-loop μ-loop → tie.After-put-numbers Inv-loop μ-loop
-first-put c = c .before .before .before .before .before .before
+abbrev first-put : tie.After-known-told Inv-loop μ-loop → tie.After-put-numbers Inv-loop μ-loop
+first-put c = c .before .before .before .before .before
 
 abbrev origin : tie.At-loop Inv-loop μ-loop → tie.Start Inv-loop μ-loop
 origin c = entry (first-put (c .before))
@@ -43,45 +43,41 @@ own : (c : tie.Start Inv-loop μ-loop) → Sixteen (c .args .t1 .window .words)
 own c = record { long = search needs; words = λ i. let f : Fits w64 (getD (c .args .t1 .window .words) i 0) = search needs in f .fits }
 
 -- the first range, and the one that a turn finds
-found : (c : tie.After-range-below Inv-loop μ-loop)
-    → (c .range-below .result .missing ≡ missing (c .before .before .before .before .args .t1) 1024) × (c .range-below .result .size ≡ size (c .before .before .before .before .args .t1) 1024)
-found c = let s = c .before .before .before .before in ranged (s .args .t1) (own s) 1024 _ _ (c .range-below .ensures)
+found : (c : tie.Start Inv-loop μ-loop) → c .args .first ≡ size (c .args .t1) 1024
+found c = first-is (started c) (c .args .first) (c .pre .6)
 
-another : (c : tie.After-range-below2 Inv-loop μ-loop)
-    → (c .range-below2 .result .missing ≡ missing (origin (c .before .before .before .before) .args .t1) (c .before .before .before .before .loop .low))
-    × (c .range-below2 .result .size ≡ size (origin (c .before .before .before .before) .args .t1) (c .before .before .before .before .loop .low))
+another : (c : tie.After-range-below Inv-loop μ-loop)
+    → (c .range-below .result .missing ≡ missing (origin (c .before .before .before .before) .args .t1) (c .before .before .before .before .loop .low))
+    × (c .range-below .result .size ≡ size (origin (c .before .before .before .before) .args .t1) (c .before .before .before .before .loop .low))
 another c =
     let l = c .before .before .before .before in
-    let o = origin l in ranged (o .args .t1) (own o) (l .loop .low) _ _ (c .range-below2 .ensures)
+    let o = origin l in ranged (o .args .t1) (own o) (l .loop .low) _ _ (c .range-below .ensures)
 
 -- after the first put the ranges after the first are still to come
-begins : (c : tie.After-struct-known2 Inv-loop μ-loop)
+begins : (c : tie.After-known-told Inv-loop μ-loop)
     → Storing (entry (first-put c) .args .t1) (length (frame (entry (first-put c) .args .t1) (entry (first-put c) .args .delay) (entry (first-put c) .args .count)))
     (splice (entry (first-put c) .args .buf .now) 0 (frame (entry (first-put c) .args .t1) (entry (first-put c) .args .delay) (entry (first-put c) .args .count)))
-    (first-put c .put-numbers .last .0) (c .before .before .next .given .0 .0) (1024 - first-put c .before .before .before .before .range-below .result .size) (entry (first-put c) .args .count - 1)
+    (first-put c .put-numbers .last .0) (c .before .next .given .0 .0) (1024 - entry (first-put c) .args .first) (entry (first-put c) .args .count - 1)
 begins c =
     let k = first-put c in
     let o = entry k in
-    first-stored (started o) (o .pre .2) (o .pre .3) (o .pre .4) (o .args .buf .now) (o .pre .5) (found (k .before .before .before .before) .1) (k .put-numbers .ensures .0)
-    (c .before .before .next .given .1) (k .put-numbers .ensures .1) (k .put-numbers .kept .0)
+    first-stored (started o) (o .pre .2) (o .pre .3) (o .pre .4) (o .args .buf .now) (o .pre .5) (found o) (k .put-numbers .ensures .0)
+    (c .before .next .given .1) (k .put-numbers .ensures .1) (k .put-numbers .kept .0)
 
-sizes : (c : tie.After-range-below2 Inv-loop μ-loop)
-    → (0 < c .range-below2 .result .missing) × (0 < c .range-below2 .result .size) × (c .range-below2 .result .missing + c .range-below2 .result .size ≤ c .before .before .before .before .loop .low)
+sizes : (c : tie.After-range-below Inv-loop μ-loop)
+    → (0 < c .range-below .result .missing) × (0 < c .range-below .result .size) × (c .range-below .result .missing + c .range-below .result .size ≤ c .before .before .before .before .loop .low)
 sizes c =
     let l = c .before .before .before .before in
     step-sizes (started (origin l)) (l .loop .inv .1) (c .before .before .before .loop-test .taken) (another c .0) (another c .1)
 
-range-below-requires : tie.Need-range-below-requires Inv-loop μ-loop
-range-below-requires c κs = search needs
+sub-t16 : tie.Need-sub-t16 Inv-loop μ-loop
+sub-t16 c = omega (arith, c .before .pre .1)
 
 sub-t17 : tie.Need-sub-t17 Inv-loop μ-loop
-sub-t17 c = omega (arith, c .before .before .before .before .pre .1)
+sub-t17 c = omega (arith, c .before .pre .3)
 
 sub-t18 : tie.Need-sub-t18 Inv-loop μ-loop
-sub-t18 c = omega (arith, c .before .before .before .before .pre .3)
-
-sub-t19 : tie.Need-sub-t19 Inv-loop μ-loop
-sub-t19 c = omega (arith, first-size (started (c .before .before .before .before .before)), found (c .before))
+sub-t18 c = omega (arith, first-size (started (c .before)), found (c .before))
 
 slice-aggregate-put-numbers : tie.Need-slice-aggregate-put-numbers Inv-loop μ-loop
 slice-aggregate-put-numbers c = search needs
@@ -99,13 +95,13 @@ returns : tie.Need-returns Inv-loop μ-loop
 returns c =
     let k = c .before .before .before in
     let o = entry k in
-    let e = first-done (started o) (o .pre .2) (o .pre .3) (o .pre .4) (o .args .buf .now) (o .pre .5) (found (k .before .before .before .before) .1) (k .put-numbers .ensures .0) in
+    let e = first-done (started o) (o .pre .2) (o .pre .3) (o .pre .4) (o .args .buf .now) (o .pre .5) (found o) (k .put-numbers .ensures .0) in
     absurd (⊎-elim (λ (i : _≡_ {A = ℕ} 0 1). omega arith) (λ (i : _≡_ {A = ℕ} 0 2). omega arith) (rw e at (c .match .keys2)))
 
 sub-low : tie.Need-sub-low Inv-loop μ-loop
 sub-low c =
     let k = first-put c in
-    omega (arith, first-size (started (entry k)), found (k .before .before .before .before))
+    omega (arith, first-size (started (entry k)), found (entry k))
 
 sub-left : tie.Need-sub-left Inv-loop μ-loop
 sub-left c = omega (arith, entry (first-put c) .pre .3)
@@ -113,14 +109,14 @@ sub-left c = omega (arith, entry (first-put c) .pre .3)
 loop-holds : tie.Need-loop-holds Inv-loop μ-loop
 loop-holds c = (refl, afresh (begins c))
 
-range-below-requires-2 : tie.Need-range-below-requires-2 Inv-loop μ-loop
-range-below-requires-2 c κs = search needs
+range-below-requires : tie.Need-range-below-requires Inv-loop μ-loop
+range-below-requires c κs = search needs
 
 sub-low-2 : tie.Need-sub-low-2 Inv-loop μ-loop
 sub-low-2 c = omega (arith, sizes (c .before))
 
-sub-t28 : tie.Need-sub-t28 Inv-loop μ-loop
-sub-t28 c = omega (arith, sizes (c .before .before))
+sub-t27 : tie.Need-sub-t27 Inv-loop μ-loop
+sub-t27 c = omega (arith, sizes (c .before .before))
 
 slice-aggregate-put-numbers-2 : tie.Need-slice-aggregate-put-numbers-2 Inv-loop μ-loop
 slice-aggregate-put-numbers-2 c = search needs
@@ -180,10 +176,9 @@ store-spec =
     (tie.spec
     Inv-loop
     μ-loop
-    range-below-requires
+    sub-t16
     sub-t17
     sub-t18
-    sub-t19
     slice-aggregate-put-numbers
     put-numbers-requires
     enum-known-next
@@ -192,9 +187,9 @@ store-spec =
     sub-low
     sub-left
     loop-holds
-    range-below-requires-2
+    range-below-requires
     sub-low-2
-    sub-t28
+    sub-t27
     slice-aggregate-put-numbers-2
     put-numbers-requires-2
     enum-known-after
