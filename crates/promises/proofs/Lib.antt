@@ -18,3 +18,4 @@ pub mod Bound
 pub mod Reached
 pub mod Settled
 pub mod Only
+pub mod Writing

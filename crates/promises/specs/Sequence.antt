@@ -1,7 +1,9 @@
 -- The calls on one receiver, in their order: each is given the record that the call before handed back.
 use Prim.Native.Nat.{ℕ, zero, suc}
 use mathlib.Core.Bool.{Bool}
+use mathlib.Core.Path.{_≡_}
 use mathlib.Core.List.{List, [], _∷_}
+use lib.ListN.{length}
 use Rattle.receiver.specs.declared.Millis.{Millis}
 use Rattle.receiver.specs.declared.Micros.{Micros}
 use Rattle.receiver.specs.declared.Receiver.{Receiver}
@@ -9,7 +11,7 @@ use Rattle.receiver.specs.declared.Verdict.{Verdict}
 use Rattle.receiver.specs.declared.Verdict.the-variants.{Accepted, Stale, Refused}
 use Rattle.receiver.specs.Packet.{packetCall}
 use Rattle.receiver.specs.Calls.{openCall, timerCall, immediateCall, thresholdCall}
-use Rattle.receiver.specs.Write.{writeRefusal, answered}
+use Rattle.receiver.specs.Write.{writeRefusal, answered, writeAnswer}
 
 -- a call and its arguments; of a write's lent buffer only the length, the room, matters to the record
 pub data Call : Type 0 where
@@ -48,6 +50,12 @@ step r (threshold sequence t delay q) =
     record { reply = replyTo (thresholdCall r sequence t delay q .verdict); next = thresholdCall r sequence t delay q .next }
 step r (write time room) =
     record { reply = replyOf (answered (writeRefusal r time room) r [] .result); next = answered (writeRefusal r time room) r [] .next }
+
+-- the last line is what the write call answers, whatever the lent buffer holds
+abbrev pub WriteIsStep : Type 0
+WriteIsStep =
+    (r : Receiver) (time : Micros) (xs : List ℕ)
+    → step r (write time (length xs)) ≡ record { reply = replyOf (writeAnswer r time xs .result); next = writeAnswer r time xs .next }
 
 -- calls in their order: none yet, or some and then one more
 infixl 20 _then_

@@ -1,6 +1,8 @@
 // One line for each call: what it is given, and what it answers.
 // A room is at most the buffer that it is taken from: io::count keeps it within.
 use crate::show;
+use receiver::Micros;
+use receiver::Receiver;
 
 // ---- reading
 
@@ -175,4 +177,26 @@ pub fn put_immediate_in(room: isize) {
     let mut buf = [0xeeu8; 2];
     let n = io::count(room, &buf);
     put_immediate(&mut buf[..n]);
+}
+
+// ---- the receiver
+
+// An ACK_FREQUENCY frame's four values, and what is in force after it.
+pub fn threshold(
+    receiver: Receiver,
+    sequence: u64,
+    threshold: u64,
+    delay: u64,
+    reordering: u64,
+) -> Receiver {
+    show::count(b"threshold ", sequence);
+    show::count(b" ", threshold);
+    show::count(b" ", delay);
+    show::count(b" ", reordering);
+    let heard = receiver.threshold(sequence, threshold, Micros(delay), reordering);
+    let verdict = heard.verdict;
+    let next = heard.next;
+    let agreed = next.agreed;
+    show::verdict(verdict, agreed);
+    next
 }

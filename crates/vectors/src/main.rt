@@ -1,10 +1,13 @@
-// The published examples of RFC 9000 and those of document 01 on numbers and frames, run and written out line by line.
+// The published examples of RFC 9000 and the unmarked ones of document 01, on numbers, frames and thresholds, run and written out line by line.
 // Carries "the rest and RFC 9000's published vectors run in a test program" of document 01, "Settled examples".
 // What it must write stands in the file stdout, which was written from the papers and not from this program.
 mod calls;
 mod show;
 
 use calls::Reader;
+use receiver::Micros;
+use receiver::Millis;
+use receiver::Receiver;
 
 fn head() {
     show::text(b"Each line: the call, what it is given, what it answers. ");
@@ -171,6 +174,18 @@ fn frames_written() {
     calls::put_immediate_in(2);
 }
 
+// What a frame is answered and what is then in force are printed side by side: they must agree.
+fn thresholds_heard() {
+    show::text(b"\nACK_FREQUENCY is heard: delay 16383999 passes, 16384000 gives 4; ");
+    show::text(b"the second frame with sequence 5 is stale, and 4 comes before that\n");
+    let opened = Receiver::open(1, 1, Millis(25), Micros(1000));
+    let first = calls::threshold(opened.next, 5, 10, 16383999, 3);
+    let second = calls::threshold(first, 5, 2, 25000, 1);
+    let third = calls::threshold(second, 5, 2, 16384000, 1);
+    let fourth = calls::threshold(third, 6, 2, 16384000, 1);
+    calls::threshold(fourth, 6, 2, 25000, 1);
+}
+
 fn main() {
     head();
     published_read();
@@ -187,4 +202,5 @@ fn main() {
     ack_below_zero();
     ack_before_room();
     frames_written();
+    thresholds_heard();
 }

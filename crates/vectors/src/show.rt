@@ -2,6 +2,8 @@
 use frames::Ack;
 use frames::Frequency;
 use frames::Immediate;
+use receiver::Agreed;
+use receiver::Verdict;
 use wire::Number;
 use wire::Put;
 
@@ -116,5 +118,18 @@ pub fn ack(answer: Ack, slice: &[u64]) {
     }
     text(b"; slice");
     numbers(slice);
+    text(b"\n");
+}
+
+// What a threshold frame is answered, and the values in force after it.
+pub fn verdict(answer: Verdict, agreed: Agreed) {
+    match answer {
+        Verdict::Accepted => text(b": accepted"),
+        Verdict::Stale => text(b": stale"),
+        Verdict::Refused(n) => count(b": refused ", n),
+    }
+    count(b"; in force ", agreed.threshold);
+    count(b" ", agreed.delay.0);
+    count(b" ", agreed.reordering);
     text(b"\n");
 }
