@@ -104,7 +104,7 @@ typedef struct {
 typedef struct {
     uint64_t result; /* 0, 2, 3, 14 or 9 */
     uint64_t largest;
-    uint64_t delay;  /* as on the wire, in eights of a microsecond */
+    uint64_t delay;  /* as on the wire: each stands for 8 microseconds */
     uint64_t ranges; /* how many ranges were written to the lent slice */
     uint64_t used;
 } lumbixet_ack;
