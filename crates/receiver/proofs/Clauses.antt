@@ -15,7 +15,7 @@ use Rattle.receiver.specs.declared.Receiver.{Receiver}
 use Rattle.receiver.specs.declared.Seen.{Seen}
 use Rattle.receiver.specs.declared.Limits.{Limits}
 use Rattle.receiver.specs.declared.Pending.{Pending}
-use Rattle.receiver.specs.Record.{small, smallEnd, limitsRule, delayRule, seenConsistent, pendingConsistent, agreedConsistent, consistent, microsOf}
+use Rattle.receiver.specs.Record.{small, smallEnd, limitsRule, delayRule, seenConsistent, pendingConsistent, agreedConsistent, marksConsistent, consistent, microsOf}
 use Rattle.receiver.specs.Consistent.{Consistent, ConsistentExactly}
 
 -- both sides of a conjunction
@@ -120,20 +120,42 @@ says r e =
       nothing = kc .1;
     }
 
+-- the tests that are made of several clauses
+pub marks-hold : (r : Receiver) → Consistent r → marksConsistent (r .seen) ≡ true
+marks-hold r k =
+    let w : ℕ = valueOf (r .seen .window) in
+    join (none-is (1024 - r .seen .end) w (k .below)) (own-is (r .seen .end) (isSet w 1023) (k .own))
+
+pub limits-hold : (r : Receiver) → Consistent r → limitsRule (r .limits) ≡ true
+unfolding limitsRule
+limits-hold r k = join (lt-ltb _ _ (k .maximum)) (le-leb _ _ (k .minimum))
+
+pub delay-holds : (r : Receiver) → Consistent r → delayRule (r .limits) (r .agreed .delay) ≡ true
+unfolding delayRule
+delay-holds r k = join (lt-ltb _ _ (k .delay)) (le-leb _ _ (k .least))
+
+pub absent-holds : (r : Receiver) → Consistent r → pick (eqb (r .pending .count) 0) (eqb (r .pending .end) 0) (not (eqb (r .pending .end) 0)) ≡ true
+absent-holds r k = absent-is (r .pending .count) (r .pending .end) (k .absent)
+
 is : (r : Receiver) → Consistent r → consistent r ≡ true
-unfolding consistent seenConsistent pendingConsistent agreedConsistent limitsRule delayRule
+unfolding consistent seenConsistent pendingConsistent agreedConsistent
 is r k =
-    let s : Seen = r .seen in
-    let p : Pending = r .pending in
-    let w : ℕ = valueOf (s .window) in
-    join (join (le-leb _ _ (k .largest)) (join (le-leb _ _ (k .arrived)) (join (none-is (1024 - s .end) w (k .below)) (own-is (s .end) (isSet w 1023) (k .own)))))
-    (join (join (le-leb (p .count) (limit + 1) (k .count)) (join (le-leb _ _ (k .first)) (join (le-leb _ _ (k .unacknowledged)) (absent-is (p .count) (p .end) (k .absent)))))
-    (join (join (lt-ltb _ _ (k .maximum)) (le-leb _ _ (k .minimum)))
-    (join (join (le-leb _ _ (k .threshold)) (join (le-leb _ _ (k .reordering)) (join (le-leb _ _ (k .sequence)) (join (lt-ltb _ _ (k .delay)) (le-leb _ _ (k .least))))))
-    (join (le-leb _ _ (k .acknowledged)) (join (le-leb _ _ (k .highest)) (cause-is (s .end) (r .cause) (k .cause) (k .nothing)))))))
+    join (join (le-leb _ _ (k .largest)) (join (le-leb _ _ (k .arrived)) (marks-hold r k)))
+    (join (join (le-leb (r .pending .count) (limit + 1) (k .count)) (join (le-leb _ _ (k .first)) (join (le-leb _ _ (k .unacknowledged)) (absent-holds r k))))
+    (join (limits-hold r k)
+    (join (join (le-leb _ _ (k .threshold)) (join (le-leb _ _ (k .reordering)) (join (le-leb _ _ (k .sequence)) (delay-holds r k))))
+    (join (le-leb _ _ (k .acknowledged)) (join (le-leb _ _ (k .highest)) (cause-is (r .seen .end) (r .cause) (k .cause) (k .nothing)))))))
 
 pub consistent-exactly : ConsistentExactly
 consistent-exactly r = (says r, is r)
+
+-- one failed test that a consistent record would pass, in whatever order the tests are made
+pub fails : (r : Receiver) {s : Bool} → s ≡ false → (Consistent r → s ≡ true) → consistent r ≡ false
+fails r {s} e f = go (consistent r) refl
+  where
+    go : (b : Bool) → consistent r ≡ b → consistent r ≡ false
+    go false g = g
+    go true g = let h : true ≡ false = sym (f (says r g)) ∙ e in let z : _≡_ {A = ℕ} 0 1 = cc in absurd (omega arith)
 
 -- own limits that are allowed can be converted
 pub allowed-below : (l : Limits) → limitsRule l ≡ true → l .maximum .0 < 16384

@@ -27,8 +27,8 @@ impl Seen {
         requires { ⌜ (number < 2 ^ 62) × (highest ≤ 2 ^ 62) × (self .end ≤ 2 ^ 62) ⌝ }
         ensures { λ r. ⌜ r ≡ outOfOrder self number highest ⌝ }
     {
-        if number + 1 < highest {
-            return true;
+        if number <= highest {
+            return number + 1 < highest;
         }
         match self.first_missing(highest, number) {
             Missing::At(_) => true,

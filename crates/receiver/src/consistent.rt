@@ -1,24 +1,17 @@
 // What consistent means: refusal 1 is given exactly for a record that is not.
+// The tests of plain numbers come first and the window last: that is the order that costs least.
 ghost use mathlib.Core.Path.{_≡_};
-ghost use Rattle.receiver.specs.Record.{seenConsistent, pendingConsistent, agreedConsistent, consistent};
-use crate::Agreed;
-use crate::Limits;
-use crate::Pending;
+ghost use Rattle.receiver.specs.Record.{marksConsistent, consistent};
 use crate::Receiver;
 use crate::Seen;
 use crate::numbers;
 
 impl Seen {
-    fn consistent(self) -> bool
-        ensures { λ r. ⌜ r ≡ seenConsistent self ⌝ }
+    // Whether no number below 0 is marked, and L is.
+    fn marks_consistent(self) -> bool
+        ensures { λ r. ⌜ r ≡ marksConsistent self ⌝ }
     {
         let end = self.end;
-        if !numbers::is_small_end(end) {
-            return false;
-        }
-        if !numbers::is_small(self.arrived.0) {
-            return false;
-        }
         let window = self.window;
         if !window.none_below(numbers::less(1024, end)) {
             return false;
@@ -30,70 +23,56 @@ impl Seen {
     }
 }
 
-impl Pending {
-    fn consistent(self, end: u64) -> bool
-        ensures { λ r. ⌜ r ≡ pendingConsistent self end ⌝ }
-    {
-        if !numbers::is_small_end(self.count) {
-            return false;
-        }
-        if !numbers::is_small(self.first.0) {
-            return false;
-        }
-        if end < self.end {
-            return false;
-        }
-        if self.count == 0 {
-            return self.end == 0;
-        }
-        self.end != 0
-    }
-}
-
-impl Agreed {
-    fn consistent(self, limits: Limits) -> bool
-        ensures { λ r. ⌜ r ≡ agreedConsistent self limits ⌝ }
-    {
-        if !numbers::is_small(self.threshold) {
-            return false;
-        }
-        if !numbers::is_small(self.reordering) {
-            return false;
-        }
-        if !numbers::is_small_end(self.sequence) {
-            return false;
-        }
-        let delay = self.delay;
-        limits.allow(delay)
-    }
-}
-
 impl Receiver {
     // Whether the record is consistent.
     pub fn consistent(self) -> bool
         ensures { λ r. ⌜ r ≡ consistent self ⌝ }
     {
         let seen = self.seen;
-        let end = seen.end;
-        if !seen.consistent() {
-            return false;
-        }
         let pending = self.pending;
-        if !pending.consistent(end) {
-            return false;
-        }
-        let limits = self.limits;
-        if !limits.allowed() {
-            return false;
-        }
         let agreed = self.agreed;
-        if !agreed.consistent(limits) {
+        let limits = self.limits;
+        let end = seen.end;
+        if !numbers::is_small(seen.arrived.0) {
+            return false;
+        }
+        if !numbers::is_small(pending.first.0) {
+            return false;
+        }
+        if !numbers::is_small(agreed.threshold) {
+            return false;
+        }
+        if !numbers::is_small(agreed.reordering) {
+            return false;
+        }
+        if !numbers::is_small_end(end) {
+            return false;
+        }
+        if !numbers::is_small_end(pending.count) {
+            return false;
+        }
+        if !numbers::is_small_end(agreed.sequence) {
+            return false;
+        }
+        if end < pending.end {
             return false;
         }
         if end < self.acknowledged {
             return false;
         }
         if end < self.highest {
+            return false;
+        }
+        if !limits.allowed() {
+            return false;
+        }
+        if !limits.allow(agreed.delay) {
+            return false;
+        }
+        if (pending.count == 0) != (pending.end == 0) {
+            return false;
+        }
+        if !seen.marks_consistent() {
             return false;
         }
         if end == 0 {

@@ -95,18 +95,36 @@ impl Receiver {
     {
         let before = self.seen;
         let seen = before.with(number, time);
-        let mut next = self;
-        next.seen = seen;
-        next.marked = marked;
-        if !eliciting {
-            return next;
-        }
         let waiting = self.pending;
+        if !eliciting {
+            let agreed = self.agreed;
+            let limits = self.limits;
+            return Receiver {
+                seen,
+                pending: waiting,
+                agreed,
+                limits,
+                acknowledged: self.acknowledged,
+                highest: self.highest,
+                marked,
+                cause: self.cause,
+            };
+        }
         let pending = waiting.with(number, time);
-        next.pending = pending;
-        next.highest = numbers::larger(self.highest, number + 1);
-        next.cause = self.cause_after(number, marked, seen, pending);
-        next
+        let highest = numbers::larger(self.highest, number + 1);
+        let cause = self.cause_after(number, marked, seen, pending);
+        let agreed = self.agreed;
+        let limits = self.limits;
+        Receiver {
+            seen,
+            pending,
+            agreed,
+            limits,
+            acknowledged: self.acknowledged,
+            highest,
+            marked,
+            cause,
+        }
     }
 
     // A packet arrives: its number, its time, whether it is ack-eliciting, whether it has the CE mark.

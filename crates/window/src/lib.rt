@@ -136,6 +136,10 @@ impl Window {
         if 1024 <= d {
             return Window::empty();
         }
+        // Most packets come in order: a distance known to the compiler makes the shifts cheap.
+        if d == 1 {
+            return self.bits_down(1);
+        }
         let q = (d / 64) as usize;
         let s = d % 64;
         if q == 0 {
@@ -177,6 +181,9 @@ impl Window {
     pub fn none_below(self, p: u64) -> bool
         ensures { λ r. ⌜ r ≡ noneBelow p (valueOf self) ⌝ }
     {
+        if p == 0 {
+            return true;
+        }
         let words = self.words;
         let mut left = p;
         for i in 0..16 {

@@ -16,7 +16,7 @@ with-requires c κs = search needs
 
 returns : tie.Need-returns
 unfolding packetAfter
-returns c = rw (not-true (c .before .before .before .args .eliciting) (c .if1 .taken), c .before .with .ensures)
+returns c = rw (not-true (c .before .before .before .before .before .before .args .eliciting) (c .before .before .if1 .taken), c .before .before .before .before .with .ensures)
 
 with-requires-2 : tie.Need-with-requires-2
 with-requires-2 c κs = ((c .before .before .before .before .pre .0), consistent-exactly _ .0 (c .before .before .before .before .pre .1) .count)
@@ -32,7 +32,7 @@ cause-after-requires c κs = in-range (c .before .before .before .before .before
 
 returns-2 : tie.Need-returns-2
 unfolding packetAfter
-returns-2 c = rw (not-false (c .before .before .before .before .before .before .before .args .eliciting) (c .before .before .before .before .if1 .left), c .cause-after .ensures, c .before .larger .ensures, c .before .before .with2 .ensures, c .before .before .before .before .before .with .ensures)
+returns-2 c = rw (not-false (c .before .before .before .before .before .before .before .before .before .args .eliciting) (c .before .before .before .before .before .if1 .left), c .before .before .cause-after .ensures, c .before .before .before .larger .ensures, c .before .before .before .before .with2 .ensures, c .before .before .before .before .before .before .before .with .ensures)
 
 pub with-spec : {M : Type 1} → statement M
 with-spec =

@@ -1,18 +1,22 @@
 -- `receiver::Seen::out_of_order` meets its contract: its test and its search are the rule's.
 -- Assumes nothing.
-use mathlib.Core.Path.{ap, sym, _∙_}
-use borrow.Author.Tests.{lt-ltb, le-ltb}
+use Prim.Native.Nat.{ℕ, _+_, _<_}
+use mathlib.Core.Path.{_≡_, ap, sym, _∙_}
+use mathlib.Core.Bool.{false}
+use native.Mathlib.Omega.{arith}
+use borrow.Author.Tests.{le-ltb}
+use lib.Dec.{ltb}
 use Rattle.receiver.specs.Packet.{outOfOrder, isAny}
+use Rattle.receiver.proofs.Missing.{not-beyond}
 use borrow.Author.Needs.{needs}
 use Rattle.receiver.proofs.Seen.out_of_order.Statement.{statement}
 use Rattle.receiver.proofs.Seen.out_of_order.Tie as tie
 
-add-if1 : tie.Need-add-if1
-add-if1 c = search needs
+add-result : tie.Need-add-result
+add-result c = search needs
 
 returns : tie.Need-returns
-unfolding outOfOrder
-returns c = rw (lt-ltb _ _ (c .if1 .taken))
+returns c = not-beyond _ _ _ (c .if1 .taken)
 
 first-missing-requires : tie.Need-first-missing-requires
 first-missing-requires c κs = search needs
@@ -23,15 +27,19 @@ enum-told c = search needs
 enum-told-2 : tie.Need-enum-told-2
 enum-told-2 c = search needs
 
+-- a number above the earlier H is not below it
+above : (number highest : ℕ) → highest < number → ltb (number + 1) highest ≡ false
+above number highest l = le-ltb (number + 1) highest (omega arith)
+
 returns-2 : tie.Need-returns-2
 unfolding outOfOrder
-returns-2 c = rw (le-ltb _ _ (c .before .before .before .if1 .left)) (ap isAny (sym (c .enum-told .given .1) ∙ c .before .before .first-missing .ensures))
+returns-2 c = rw (above _ _ (c .before .before .before .if1 .left)) (ap isAny (sym (c .enum-told .given .1) ∙ c .before .before .first-missing .ensures))
 
 returns-3 : tie.Need-returns-3
 unfolding outOfOrder
-returns-3 c = rw (le-ltb _ _ (c .before .before .before .if1 .left)) (ap isAny (sym (c .enum-told2 .given .1) ∙ c .before .before .first-missing .ensures))
+returns-3 c = rw (above _ _ (c .before .before .before .if1 .left)) (ap isAny (sym (c .enum-told2 .given .1) ∙ c .before .before .first-missing .ensures))
 
 pub out-of-order-spec : {M : Type 1} → statement M
 out-of-order-spec =
     tie.close
-    (tie.spec add-if1 returns first-missing-requires enum-told enum-told-2 returns-2 returns-3)
+    (tie.spec add-result returns first-missing-requires enum-told enum-told-2 returns-2 returns-3)

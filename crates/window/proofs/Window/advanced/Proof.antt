@@ -30,11 +30,7 @@ bits-down-requires c κs = search needs
 returns-2 : tie.Need-returns-2
 returns-2 c =
     let s = c .before .before .before in
-    let e : s .args .d % 64 ≡ s .args .d = omega arith in
-    c .bits-down .ensures ∙ ap (λ (d : ℕ). windowOf (valueOf (s .args .self) / 2 ^ d)) e
-
-words-down-requires : tie.Need-words-down-requires
-words-down-requires c κs = search needs
+    c .bits-down .ensures ∙ ap (λ (d : ℕ). windowOf (valueOf (s .args .self) / 2 ^ d)) (sym (c .before .if2 .taken))
 
 bits-down-requires-2 : tie.Need-bits-down-requires-2
 bits-down-requires-2 c κs = search needs
@@ -42,7 +38,19 @@ bits-down-requires-2 c κs = search needs
 returns-3 : tie.Need-returns-3
 returns-3 c =
     let s = c .before .before .before .before in
-    c .bits-down2 .ensures ∙ ap (λ (w : Window). windowOf (valueOf w / 2 ^ (s .args .d % 64))) (c .before .words-down .ensures)
+    let e : s .args .d % 64 ≡ s .args .d = omega arith in
+    c .bits-down2 .ensures ∙ ap (λ (d : ℕ). windowOf (valueOf (s .args .self) / 2 ^ d)) e
+
+words-down-requires : tie.Need-words-down-requires
+words-down-requires c κs = search needs
+
+bits-down-requires-3 : tie.Need-bits-down-requires-3
+bits-down-requires-3 c κs = search needs
+
+returns-4 : tie.Need-returns-4
+returns-4 c =
+    let s = c .before .before .before .before .before in
+    c .bits-down3 .ensures ∙ ap (λ (w : Window). windowOf (valueOf w / 2 ^ (s .args .d % 64))) (c .before .words-down .ensures)
     ∙ ap windowOf (in-two _ (known s) (s .args .d))
 
 pub advanced-spec : {M : Type 1} → statement M
@@ -53,6 +61,8 @@ advanced-spec =
     returns
     bits-down-requires
     returns-2
-    words-down-requires
     bits-down-requires-2
-    returns-3)
+    returns-3
+    words-down-requires
+    bits-down-requires-3
+    returns-4)

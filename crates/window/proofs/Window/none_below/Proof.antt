@@ -5,6 +5,7 @@ use Prim.Native.Nat.{ℕ, _-_, _%_, _<_}
 use native.Mathlib.Nat.{add-zero}
 use native.Mathlib.Omega.{arith}
 use borrow.Author.Needs.{needs}
+use borrow.Author.Tests.{eq-eqb}
 use mir.Val.{Fits}
 use mir.Syntax.{w64}
 use lib.Dec.{eqb}
@@ -28,6 +29,12 @@ abbrev μ-loop : tie.MeasureT-loop
 known : (c : tie.Start Inv-loop μ-loop) → Sixteen (c .args .self .words)
 known c = record { long = search needs; words = λ i. let f : Fits w64 (getD (c .args .self .words) i 0) = search needs in f .fits }
 
+returns : tie.Need-returns Inv-loop μ-loop
+returns c =
+    let w = numberOf (c .before .args .self .words) in
+    let e : w % 1 ≡ 0 = omega arith in
+    sym (ap (λ (p : ℕ). noneBelow p w) (c .if1 .taken) ∙ eq-eqb _ _ e)
+
 loop-holds : tie.Need-loop-holds Inv-loop μ-loop
 loop-holds c = refl
 
@@ -41,25 +48,25 @@ shl-low : tie.Need-shl-low Inv-loop μ-loop
 shl-low c = omega arith
 
 rem-low : tie.Need-rem-low Inv-loop μ-loop
-rem-low c = subst (λ (x : ℕ). 0 < x) (sym (one-at _ (c .if1 .taken))) (pow-pos (c .before .before .loop .left))
+rem-low c = subst (λ (x : ℕ). 0 < x) (sym (one-at _ (c .if2 .taken))) (pow-pos (c .before .before .loop .left))
 
 -- the word that the code reads is the first of those that are left
 here : (ws : List ℕ) (i : ℕ) → getD ws i 0 ≡ getD (drop i ws) 0 0
 here ws i = sym (getD-drop i ws 0 0 ∙ ap (λ (j : ℕ). getD ws j 0) (add-zero i))
 
-returns : tie.Need-returns Inv-loop μ-loop
-returns c =
-    let l = c .before .before in
-    let ws = l .before .before .args .self .words in
-    sym (l .loop .inv ∙ low-last (drop (l .loop .i) ws) (words-drop ws (known (l .before .before) .words) (l .loop .i)) (l .loop .left) (omega arith)
-    ∙ ap₂ (λ (x y : ℕ). eqb (x % y) 0) (sym (here ws (l .loop .i))) (sym (one-at _ (c .if1 .taken))))
-
 returns-2 : tie.Need-returns-2 Inv-loop μ-loop
 returns-2 c =
+    let l = c .before .before in
+    let ws = l .before .before .before .args .self .words in
+    sym (l .loop .inv ∙ low-last (drop (l .loop .i) ws) (words-drop ws (known (l .before .before .before) .words) (l .loop .i)) (l .loop .left) (omega arith)
+    ∙ ap₂ (λ (x y : ℕ). eqb (x % y) 0) (sym (here ws (l .loop .i))) (sym (one-at _ (c .if2 .taken))))
+
+returns-3 : tie.Need-returns-3 Inv-loop μ-loop
+returns-3 c =
     let l = c .before .before .before in
-    let ws = l .before .before .args .self .words in
-    sym (l .loop .inv ∙ low-some (drop (l .loop .i) ws) (words-drop ws (known (l .before .before) .words) (l .loop .i)) (l .loop .left) (c .before .if1 .left)
-    (λ e. c .if2 .taken (here ws (l .loop .i) ∙ e)))
+    let ws = l .before .before .before .args .self .words in
+    sym (l .loop .inv ∙ low-some (drop (l .loop .i) ws) (words-drop ws (known (l .before .before .before) .words) (l .loop .i)) (l .loop .left) (c .before .if2 .left)
+    (λ e. c .if3 .taken (here ws (l .loop .i) ∙ e)))
 
 add-i : tie.Need-add-i Inv-loop μ-loop
 add-i c = omega arith
@@ -70,15 +77,15 @@ loop-less c = omega arith
 loop-again : tie.Need-loop-again Inv-loop μ-loop
 loop-again c =
     let l = c .before .before .before in
-    let ws = l .before .before .args .self .words in
-    l .loop .inv ∙ low-next (drop (l .loop .i) ws) (words-drop ws (known (l .before .before) .words) (l .loop .i)) (l .loop .left) (c .before .if1 .left)
-    (sym (here ws (l .loop .i)) ∙ c .if2 .left) ∙ ap (λ (ys : List ℕ). noneBelow (l .loop .left - 64) (numberOf ys)) (drop-drop 1 (l .loop .i) ws)
+    let ws = l .before .before .before .args .self .words in
+    l .loop .inv ∙ low-next (drop (l .loop .i) ws) (words-drop ws (known (l .before .before .before) .words) (l .loop .i)) (l .loop .left) (c .before .if2 .left)
+    (sym (here ws (l .loop .i)) ∙ c .if3 .left) ∙ ap (λ (ys : List ℕ). noneBelow (l .loop .left - 64) (numberOf ys)) (drop-drop 1 (l .loop .i) ws)
 
-returns-3 : tie.Need-returns-3 Inv-loop μ-loop
-returns-3 c =
+returns-4 : tie.Need-returns-4 Inv-loop μ-loop
+returns-4 c =
     let l = c .before in
-    let ws = l .before .before .args .self .words in
-    sym (l .loop .inv ∙ ap (λ (ys : List ℕ). noneBelow (l .loop .left) (numberOf ys)) (drop-of-length-le ws {i = l .loop .i} (omega (arith, known (l .before .before) .long))) ∙ low-none (l .loop .left))
+    let ws = l .before .before .before .args .self .words in
+    sym (l .loop .inv ∙ ap (λ (ys : List ℕ). noneBelow (l .loop .left) (numberOf ys)) (drop-of-length-le ws {i = l .loop .i} (omega (arith, known (l .before .before .before) .long))) ∙ low-none (l .loop .left))
 
 pub none-below-spec : {M : Type 1} → statement M
 none-below-spec =
@@ -86,14 +93,15 @@ none-below-spec =
     (tie.spec
     Inv-loop
     μ-loop
+    returns
     loop-holds
     mul-word
     array-read-word
     shl-low
     rem-low
-    returns
     returns-2
+    returns-3
     add-i
     loop-less
     loop-again
-    returns-3)
+    returns-4)
