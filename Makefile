@@ -3,6 +3,8 @@
 
 CFLAGS = -std=c11 -Wall -Wextra -Werror -O2 -Iinclude
 ARCHIVE = target/staticlib/libhost.a
+# The loop over packets, an archive of its own that `make bench` alone links.
+STREAM = target/staticlib/libstream.a
 PAPER = target/paper/paper
 
 # How many inputs `make compare` makes for the replay program, and how many rounds of calls for the archive.
@@ -68,8 +70,10 @@ compare: paper
 	@$(PAPER) compare-archive $(ROUNDS)
 
 bench: paper
+	@rt staticlib stream
+	@echo
 	@mkdir -p target/bench
-	@$(CC) $(CFLAGS) bench/*.c $(ARCHIVE) -o target/bench/bench
+	@$(CC) $(CFLAGS) bench/*.c $(ARCHIVE) $(STREAM) -o target/bench/bench
 	@target/bench/bench
 	@$(PAPER) trace-large > target/bench/large.trace
 	@echo

@@ -10,7 +10,7 @@
 #include "inputs.h"
 #include "sides.h"
 
-enum { MADE_UP = 20000, SEQUENCES = 2000, CALLS = 200 };
+enum { MADE_UP = 20000, SEQUENCES = 2000, CALLS = 200, LISTS = 50 };
 
 static uint64_t compared;
 static uint64_t state = 11;
@@ -180,6 +180,15 @@ static lumbixet_answer compare_packet(const lumbixet_receiver *r, uint64_t numbe
     return a;
 }
 
+static lumbixet_answer compare_stream(const lumbixet_receiver *r, const uint64_t *list, size_t length, uint64_t time,
+                                      bool eliciting, bool marked)
+{
+    lumbixet_answer a = archive.stream(*r, list, length, time, eliciting, marked);
+    lumbixet_answer b = plain.stream(*r, list, length, time, eliciting, marked);
+    check_answer(&a, &b, "stream");
+    return a;
+}
+
 static lumbixet_answer compare_timer(const lumbixet_receiver *r, uint64_t time)
 {
     lumbixet_answer a = archive.timer(*r, time);
@@ -221,6 +230,17 @@ static void compare_traffic(const struct traffic *t)
         record = compare_packet(&record, t->numbers[k], arrival(k), true, false).next;
         if (k % BLOCK == BLOCK - 1)
             record = compare_write(&record, arrival(k), FRAME_ROOM).next;
+    }
+}
+
+/* The timed blocks, each in one call. */
+static void compare_blocks(const struct traffic *t)
+{
+    lumbixet_receiver record = t->start;
+    for (size_t block = WARM; block < WARM + PACKETS; block += BLOCK) {
+        uint64_t time = arrival(block + BLOCK - 1);
+        record = compare_stream(&record, t->numbers + block, BLOCK, time, true, false).next;
+        record = compare_write(&record, time, FRAME_ROOM).next;
     }
 }
 
@@ -282,6 +302,39 @@ static void compare_sequence(void)
     }
 }
 
+/* A list that goes on from the record with a gap or a step back now and then, and that has, in half of the lists, a
+ * number from anywhere at some place: many of these are refused. */
+static size_t make_list(uint64_t *list, const lumbixet_receiver *r)
+{
+    size_t length = pick(&state) % (BLOCK + 1);
+    uint64_t number = r->end;
+    for (size_t i = 0; i < length; i++) {
+        uint64_t kind = pick(&state) % 64;
+        list[i] = kind == 0 ? number - 1 - pick(&state) % 1100 : number;
+        if (kind)
+            number += kind < 4 ? 2 : 1;
+    }
+    if (length && pick(&state) % 2)
+        list[pick(&state) % length] = pick(&state) % 4 ? number - 1 - pick(&state) % 1100 : any_number();
+    return length;
+}
+
+static void compare_lists(void)
+{
+    lumbixet_receiver record = archive.open(pick(&state) % 40, pick(&state) % 7, 25, 1000).next;
+    uint64_t list[BLOCK];
+    for (size_t i = 0; i < LISTS; i++) {
+        lumbixet_receiver made_up = pick(&state) % 16 ? record : spoiled(record);
+        size_t length = make_list(list, &made_up);
+        uint64_t time = pick(&state) % 16 ? record.arrived + pick(&state) % 3000 : any_number();
+        lumbixet_answer answer = compare_stream(&made_up, list, length, time, pick(&state) % 8, pick(&state) % 8 == 0);
+        if (answer.result != LUMBIXET_INCONSISTENT)
+            record = answer.next;
+        if (i % 8 == 7)
+            record = compare_write(&record, record.arrived, FRAME_ROOM).next;
+    }
+}
+
 /* Windows with every number missing or there at random have hundreds of ranges: each room up to 1,000 cuts some off. */
 static void compare_dense_windows(void)
 {
@@ -312,16 +365,20 @@ static void compare_made_up_highest(void)
 static void compare_receiver(void)
 {
     for (int pattern = 0; pattern < PATTERNS; pattern++)
-        for (int r = 0; r < 2; r++)
+        for (int r = 0; r < 2; r++) {
             compare_traffic(&traffic[pattern][r]);
+            compare_blocks(&traffic[pattern][r]);
+        }
     for (int kind = 0; kind < ACK_KINDS; kind++)
         for (size_t v = 0; v < VARIANTS; v++)
             for (size_t room = 0; room <= 300; room++)
                 compare_write(&acks[kind].records[v], acks[kind].time, room);
     compare_dense_windows();
     compare_made_up_highest();
-    for (size_t i = 0; i < SEQUENCES; i++)
+    for (size_t i = 0; i < SEQUENCES; i++) {
         compare_sequence();
+        compare_lists();
+    }
 }
 
 /* ---- reports */

@@ -1,5 +1,6 @@
 /* The receiver by hand from document 01: the same answers and refusals as the archive, and no proof. */
 #include "plain_numbers.h"
+#include "stream.h"
 
 #define DELAY_LIMIT_MS 16384
 #define DELAY_LIMIT_US 16384000
@@ -172,41 +173,58 @@ lumbixet_answer plain_open(uint64_t threshold, uint64_t reordering, uint64_t max
                               .minimum = minimum_us}};
 }
 
+/* Changes the record in place; a refused packet leaves it as it was. */
+static inline uint64_t take_packet(lumbixet_receiver *r, uint64_t number, uint64_t time_us, bool eliciting, bool marked)
+{
+    uint64_t refusal = packet_refusal(r, number, time_us);
+    if (refusal)
+        return refusal;
+    bool begins = marked && (r->end == 0 || !r->marked);
+    uint64_t highest = r->highest;
+    if (number < r->end) {
+        mark(r->window, place_of(r, number));
+    } else {
+        advance(r->window, number + 1 - r->end);
+        mark(r->window, PLACES - 1);
+        r->end = number + 1;
+        r->arrived = time_us;
+    }
+    r->marked = marked;
+    if (!eliciting)
+        return LUMBIXET_ACCEPTED;
+    if (r->pending_count == 0)
+        r->pending_first = time_us;
+    if (r->pending_count <= LARGEST)
+        r->pending_count++;
+    r->pending_end = larger(r->pending_end, number + 1);
+    r->highest = larger(highest, number + 1);
+    if (r->cause == LUMBIXET_NOT_DUE) {
+        if (r->pending_count > r->threshold)
+            r->cause = LUMBIXET_COUNT;
+        else if (order(r, number, highest))
+            r->cause = LUMBIXET_ORDER;
+        else if (begins)
+            r->cause = LUMBIXET_CONGESTION;
+    }
+    return LUMBIXET_ACCEPTED;
+}
+
 /* The parameter is the call's own copy: it is changed in place and handed back. */
 lumbixet_answer plain_packet(lumbixet_receiver receiver, uint64_t number, uint64_t time_us, bool eliciting,
                              bool marked)
 {
-    uint64_t refusal = packet_refusal(&receiver, number, time_us);
-    if (refusal)
-        return (lumbixet_answer){refusal, receiver};
-    bool begins = marked && (receiver.end == 0 || !receiver.marked);
-    uint64_t highest = receiver.highest;
-    if (number < receiver.end) {
-        mark(receiver.window, place_of(&receiver, number));
-    } else {
-        advance(receiver.window, number + 1 - receiver.end);
-        mark(receiver.window, PLACES - 1);
-        receiver.end = number + 1;
-        receiver.arrived = time_us;
-    }
-    receiver.marked = marked;
-    if (!eliciting)
-        return (lumbixet_answer){LUMBIXET_ACCEPTED, receiver};
-    if (receiver.pending_count == 0)
-        receiver.pending_first = time_us;
-    if (receiver.pending_count <= LARGEST)
-        receiver.pending_count++;
-    receiver.pending_end = larger(receiver.pending_end, number + 1);
-    receiver.highest = larger(highest, number + 1);
-    if (receiver.cause == LUMBIXET_NOT_DUE) {
-        if (receiver.pending_count > receiver.threshold)
-            receiver.cause = LUMBIXET_COUNT;
-        else if (order(&receiver, number, highest))
-            receiver.cause = LUMBIXET_ORDER;
-        else if (begins)
-            receiver.cause = LUMBIXET_CONGESTION;
-    }
-    return (lumbixet_answer){LUMBIXET_ACCEPTED, receiver};
+    uint64_t result = take_packet(&receiver, number, time_us, eliciting, marked);
+    return (lumbixet_answer){result, receiver};
+}
+
+/* The same for all the packets: no record is copied between two of them. */
+lumbixet_answer plain_stream(lumbixet_receiver receiver, const uint64_t *numbers, size_t length, uint64_t time_us,
+                             bool eliciting, bool marked)
+{
+    uint64_t result = LUMBIXET_ACCEPTED;
+    for (size_t i = 0; i < length && !result; i++)
+        result = take_packet(&receiver, numbers[i], time_us, eliciting, marked);
+    return (lumbixet_answer){result, receiver};
 }
 
 lumbixet_answer plain_timer(lumbixet_receiver receiver, uint64_t time_us)

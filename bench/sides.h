@@ -14,6 +14,7 @@ struct side {
     lumbixet_put (*put_immediate)(uint8_t *, size_t);
     lumbixet_answer (*open)(uint64_t, uint64_t, uint64_t, uint64_t);
     lumbixet_answer (*packet)(lumbixet_receiver, uint64_t, uint64_t, bool, bool);
+    lumbixet_answer (*stream)(lumbixet_receiver, const uint64_t *, size_t, uint64_t, bool, bool);
     lumbixet_answer (*timer)(lumbixet_receiver, uint64_t);
     lumbixet_answer (*threshold)(lumbixet_receiver, uint64_t, uint64_t, uint64_t, uint64_t);
     lumbixet_answer (*immediate)(lumbixet_receiver);

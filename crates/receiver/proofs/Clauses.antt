@@ -15,7 +15,7 @@ use Rattle.receiver.specs.declared.Receiver.{Receiver}
 use Rattle.receiver.specs.declared.Seen.{Seen}
 use Rattle.receiver.specs.declared.Limits.{Limits}
 use Rattle.receiver.specs.declared.Pending.{Pending}
-use Rattle.receiver.specs.Record.{small, smallEnd, limitsRule, delayRule, seenConsistent, pendingConsistent, agreedConsistent, marksConsistent, consistent, microsOf}
+use Rattle.receiver.specs.Record.{small, smallEnd, limitsRule, delayRule, seenConsistent, pendingConsistent, agreedConsistent, numbersObey, marksConsistent, consistent, microsOf}
 use Rattle.receiver.specs.Consistent.{Consistent, ConsistentExactly}
 
 -- both sides of a conjunction
@@ -92,15 +92,16 @@ says r e =
     let k =
     seven (seenConsistent s) (pendingConsistent p (s .end)) (limitsRule (r .limits)) (agreedConsistent (r .agreed) (r .limits)) (leb (r .acknowledged) (s .end)) (leb (r .highest) (s .end))
     (pick (eqb (s .end) 0) (eqb (r .cause) 0) (leb (r .cause) 5)) e in
-    let ks = four (smallEnd (s .end)) (small (s .arrived .0)) (noneBelow (1024 - s .end) w) (eqb (s .end) 0 || isSet w 1023) (k .0) in
+    let kn = left (numbersObey s) (marksConsistent s) (k .0) in
+    let km = right (numbersObey s) (marksConsistent s) (k .0) in
     let kp = four (smallEnd (p .count)) (small (p .first .0)) (leb (p .end) (s .end)) (pick (eqb (p .count) 0) (eqb (p .end) 0) (not (eqb (p .end) 0))) (k .1) in
     let ka = four (small (r .agreed .threshold)) (small (r .agreed .reordering)) (smallEnd (r .agreed .sequence)) (delayRule (r .limits) (r .agreed .delay)) (k .3) in
     let m : Bool = leb (r .limits .minimum .0) (microsOf (r .limits .maximum) .0) in
     let d : Bool = leb (r .limits .minimum .0) (r .agreed .delay .0) in
     let kc = cause-says (s .end) (r .cause) (k .6) in
     record {
-      largest = leb-true _ _ (ks .0);
-      arrived = leb-true _ _ (ks .1);
+      largest = leb-true _ _ (left (smallEnd (s .end)) (small (s .arrived .0)) kn);
+      arrived = leb-true _ _ (right (smallEnd (s .end)) (small (s .arrived .0)) kn);
       first = leb-true _ _ (kp .1);
       threshold = leb-true _ _ (ka .0);
       reordering = leb-true _ _ (ka .1);
@@ -115,8 +116,8 @@ says r e =
       highest = leb-true _ _ (k .5);
       unacknowledged = leb-true _ _ (kp .2);
       absent = absent-says (p .count) (p .end) (kp .3);
-      own = own-says (s .end) (isSet w 1023) (ks .3);
-      below = none-says (1024 - s .end) w (ks .2);
+      own = own-says (s .end) (isSet w 1023) (right (noneBelow (1024 - s .end) w) (eqb (s .end) 0 || isSet w 1023) km);
+      below = none-says (1024 - s .end) w (left (noneBelow (1024 - s .end) w) (eqb (s .end) 0 || isSet w 1023) km);
       nothing = kc .1;
     }
 
@@ -130,20 +131,27 @@ pub limits-hold : (r : Receiver) → Consistent r → limitsRule (r .limits) ≡
 unfolding limitsRule
 limits-hold r k = join (lt-ltb _ _ (k .maximum)) (le-leb _ _ (k .minimum))
 
-pub delay-holds : (r : Receiver) → Consistent r → delayRule (r .limits) (r .agreed .delay) ≡ true
-unfolding delayRule
-delay-holds r k = join (lt-ltb _ _ (k .delay)) (le-leb _ _ (k .least))
+pub agreed-holds : (r : Receiver) → Consistent r → agreedConsistent (r .agreed) (r .limits) ≡ true
+unfolding agreedConsistent delayRule
+agreed-holds r k =
+    join (le-leb _ _ (k .threshold)) (join (le-leb _ _ (k .reordering)) (join (le-leb _ _ (k .sequence)) (join (lt-ltb _ _ (k .delay)) (le-leb _ _ (k .least)))))
 
-pub absent-holds : (r : Receiver) → Consistent r → pick (eqb (r .pending .count) 0) (eqb (r .pending .end) 0) (not (eqb (r .pending .end) 0)) ≡ true
-absent-holds r k = absent-is (r .pending .count) (r .pending .end) (k .absent)
+pub numbers-hold : (r : Receiver) → Consistent r → numbersObey (r .seen) ≡ true
+numbers-hold r k = join (le-leb _ _ (k .largest)) (le-leb _ _ (k .arrived))
+
+pub pending-holds : (r : Receiver) → Consistent r → pendingConsistent (r .pending) (r .seen .end) ≡ true
+unfolding pendingConsistent
+pending-holds r k =
+    let p : Pending = r .pending in
+    join (le-leb (p .count) (limit + 1) (k .count)) (join (le-leb _ _ (k .first)) (join (le-leb _ _ (k .unacknowledged)) (absent-is (p .count) (p .end) (k .absent))))
 
 is : (r : Receiver) → Consistent r → consistent r ≡ true
-unfolding consistent seenConsistent pendingConsistent agreedConsistent
+unfolding consistent seenConsistent
 is r k =
-    join (join (le-leb _ _ (k .largest)) (join (le-leb _ _ (k .arrived)) (marks-hold r k)))
-    (join (join (le-leb (r .pending .count) (limit + 1) (k .count)) (join (le-leb _ _ (k .first)) (join (le-leb _ _ (k .unacknowledged)) (absent-holds r k))))
+    join (join (numbers-hold r k) (marks-hold r k))
+    (join (pending-holds r k)
     (join (limits-hold r k)
-    (join (join (le-leb _ _ (k .threshold)) (join (le-leb _ _ (k .reordering)) (join (le-leb _ _ (k .sequence)) (delay-holds r k))))
+    (join (agreed-holds r k)
     (join (le-leb _ _ (k .acknowledged)) (join (le-leb _ _ (k .highest)) (cause-is (r .seen .end) (r .cause) (k .cause) (k .nothing)))))))
 
 pub consistent-exactly : ConsistentExactly

@@ -53,13 +53,16 @@ received s n = isSet (valueOf (s .window)) (placeOf (s .end) n)
 
 -- ---- "Consistent means"
 
+-- "every number and time obeys 5", of L and of its arrival
+abbrev pub numbersObey : Seen → Bool
+numbersObey s = smallEnd (s .end) && small (s .arrived .0)
+
 -- "L's own place is marked and none below number 0"; "if nothing was received, no place is marked"
 abbrev pub marksConsistent : Seen → Bool
 marksConsistent s = noneBelow (1024 - s .end) (valueOf (s .window)) && (eqb (s .end) 0 || isSet (valueOf (s .window)) 1023)
 
--- "every number and time obeys 5"
 unfoldable pub seenConsistent : Seen → Bool
-seenConsistent s = smallEnd (s .end) && (small (s .arrived .0) && marksConsistent s)
+seenConsistent s = numbersObey s && marksConsistent s
 
 -- "N is at most 2^62"; U is "absent or at most L" and "absent exactly when N is 0"
 unfoldable pub pendingConsistent : Pending → ℕ → Bool

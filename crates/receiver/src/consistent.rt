@@ -1,13 +1,24 @@
 // What consistent means: refusal 1 is given exactly for a record that is not.
-// The tests of plain numbers come first and the window last: that is the order that costs least.
+// Which test comes when makes no difference to the answer. The window comes late, and this order costs a packet least.
 ghost use mathlib.Core.Path.{_≡_};
-ghost use Rattle.receiver.specs.Record.{marksConsistent, consistent};
+ghost use Rattle.receiver.specs.Record.{numbersObey, marksConsistent, pendingConsistent, agreedConsistent, consistent};
+use crate::Agreed;
+use crate::Limits;
+use crate::Pending;
 use crate::Receiver;
 use crate::Seen;
 use crate::numbers;
 
 impl Seen {
-    // Whether no number below 0 is marked, and L is.
+    fn numbers_obey(self) -> bool
+        ensures { λ r. ⌜ r ≡ numbersObey self ⌝ }
+    {
+        if !numbers::is_small_end(self.end) {
+            return false;
+        }
+        numbers::is_small(self.arrived.0)
+    }
+
     fn marks_consistent(self) -> bool
         ensures { λ r. ⌜ r ≡ marksConsistent self ⌝ }
     {
@@ -23,6 +34,41 @@ impl Seen {
     }
 }
 
+impl Pending {
+    fn consistent(self, end: u64) -> bool
+        ensures { λ r. ⌜ r ≡ pendingConsistent self end ⌝ }
+    {
+        if !numbers::is_small_end(self.count) {
+            return false;
+        }
+        if !numbers::is_small(self.first.0) {
+            return false;
+        }
+        if end < self.end {
+            return false;
+        }
+        (self.count == 0) == (self.end == 0)
+    }
+}
+
+impl Agreed {
+    fn consistent(self, limits: Limits) -> bool
+        ensures { λ r. ⌜ r ≡ agreedConsistent self limits ⌝ }
+    {
+        if !numbers::is_small(self.threshold) {
+            return false;
+        }
+        if !numbers::is_small(self.reordering) {
+            return false;
+        }
+        if !numbers::is_small_end(self.sequence) {
+            return false;
+        }
+        let delay = self.delay;
+        limits.allow(delay)
+    }
+}
+
 impl Receiver {
     // Whether the record is consistent.
     pub fn consistent(self) -> bool
@@ -33,28 +79,13 @@ impl Receiver {
         let agreed = self.agreed;
         let limits = self.limits;
         let end = seen.end;
-        if !numbers::is_small(seen.arrived.0) {
+        if !limits.allowed() {
             return false;
         }
-        if !numbers::is_small(pending.first.0) {
+        if !agreed.consistent(limits) {
             return false;
         }
-        if !numbers::is_small(agreed.threshold) {
-            return false;
-        }
-        if !numbers::is_small(agreed.reordering) {
-            return false;
-        }
-        if !numbers::is_small_end(end) {
-            return false;
-        }
-        if !numbers::is_small_end(pending.count) {
-            return false;
-        }
-        if !numbers::is_small_end(agreed.sequence) {
-            return false;
-        }
-        if end < pending.end {
+        if !seen.numbers_obey() {
             return false;
         }
         if end < self.acknowledged {
@@ -63,13 +94,7 @@ impl Receiver {
         if end < self.highest {
             return false;
         }
-        if !limits.allowed() {
-            return false;
-        }
-        if !limits.allow(agreed.delay) {
-            return false;
-        }
-        if (pending.count == 0) != (pending.end == 0) {
+        if !pending.consistent(end) {
             return false;
         }
         if !seen.marks_consistent() {
