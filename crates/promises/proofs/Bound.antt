@@ -1,7 +1,7 @@
 -- Demand 3: after every sequence of calls the tally of the causes holds of the record, and the tally gives the bound.
 -- Assumes nothing.
 use Prim.Native.Nat.{ℕ, zero, suc, _+_, _^_, _≤_, min, max}
-use mathlib.Core.Path.{_≡_, refl}
+use mathlib.Core.Path.{_≡_, refl, sym, subst}
 use mathlib.Core.Bool.{Bool, true, false, not, _&&_, _||_}
 use mathlib.Core.List.{List, [], _∷_}
 use native.Mathlib.Omega.{arith}
@@ -210,7 +210,9 @@ module _ (t : ℕ) (r : Receiver) (told : AsTold r []) (start : Holds t [] r) wh
   all-hold (cs then c) d =
       let p : Bool = pick (isWrite c && isAccepted (step (after r cs) c .reply)) (isDue (after r cs)) true in
       let before : Holds t (acceptedCalls r cs) (after r cs) = all-hold cs (both-left (onlyDue r cs) p d) in
-      rw (accepted-next (step (after r cs) c .reply) (acceptedOf r cs) c)
+      subst
+      (λ (l : List Call). Holds t l (step (after r cs) c .next))
+      (sym (accepted-next (step (after r cs) c .reply) (acceptedOf r cs) c))
       (by-step
       (λ b q. pick (isWrite c && b) (isDue (after r cs)) true ≡ true → Holds t (pick b (c ∷ acceptedCalls r cs) (acceptedCalls r cs)) q)
       (after r cs)
