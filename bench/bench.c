@@ -1,211 +1,15 @@
 /* Times the archive beside plain C on the same inputs. It prints figures and judges none of them. */
-#define _POSIX_C_SOURCE 199309L
-
 #include <inttypes.h>
 #include <stdio.h>
 #include <string.h>
-#include <time.h>
 
+#include "checks.h"
+#include "clock.h"
 #include "compare.h"
 #include "inputs.h"
-#include "sides.h"
+#include "rounds.h"
 
-enum { PASSES = 20, ROUNDS = 20, CALLS = 2048 };
-
-/* Every answer goes in here, so that no call can be left out. */
-static volatile uint64_t sink;
-
-/* What two looks at the clock take, taken off each timed block. */
-static uint64_t clock_cost;
-
-static uint64_t now(void)
-{
-    struct timespec t;
-    clock_gettime(CLOCK_MONOTONIC, &t);
-    return (uint64_t)t.tv_sec * 1000000000 + (uint64_t)t.tv_nsec;
-}
-
-static uint64_t since(uint64_t from)
-{
-    uint64_t passed = now() - from;
-    return passed > clock_cost ? passed - clock_cost : 0;
-}
-
-static void measure_clock(void)
-{
-    uint64_t least = UINT64_MAX;
-    for (int i = 0; i < 20000; i++) {
-        uint64_t from = now();
-        uint64_t passed = now() - from;
-        if (passed < least)
-            least = passed;
-    }
-    clock_cost = least;
-}
-
-/* ---- one round of each kind of row: nanoseconds for a call */
-
-/* Each round has numbers of its own, else the processor would learn the order of their lengths. */
-static double read_numbers(const struct side *side, int kind, int round)
-{
-    (void)kind;
-    uint64_t sum = 0;
-    size_t at = numbers.starts[round % PARTS];
-    uint64_t from = now();
-    for (size_t i = 0; i < PART; i++) {
-        lumbixet_number number = side->read_number(numbers.wire, numbers.length, at);
-        sum += number.value;
-        at = number.next;
-    }
-    uint64_t passed = since(from);
-    sink += sum;
-    return (double)passed / PART;
-}
-
-static double put_numbers(const struct side *side, int kind, int round)
-{
-    (void)kind;
-    static uint8_t buffer[PART * 8];
-    const uint64_t *values = numbers.values + round % PARTS * PART;
-    size_t at = 0;
-    uint64_t from = now();
-    for (size_t i = 0; i < PART; i++)
-        at = side->put_number(buffer, sizeof buffer, at, values[i]).next;
-    uint64_t passed = since(from);
-    sink += at + buffer[at / 2];
-    return (double)passed / PART;
-}
-
-static double read_acks(const struct side *side, int kind, int round)
-{
-    (void)round;
-    const struct acks *a = &acks[kind];
-    uint64_t ranges[128];
-    uint64_t sum = 0;
-    uint64_t from = now();
-    for (size_t i = 0; i < CALLS; i++) {
-        size_t v = i % VARIANTS;
-        lumbixet_ack ack = side->read_ack(a->frames[v], a->lengths[v], ranges, 128);
-        sum += ack.ranges + ranges[2 * ack.ranges - 1];
-    }
-    uint64_t passed = since(from);
-    sink += sum;
-    return (double)passed / CALLS;
-}
-
-static double write_acks(const struct side *side, int kind, int round)
-{
-    (void)round;
-    const struct acks *a = &acks[kind];
-    uint8_t frame[FRAME_ROOM];
-    uint64_t sum = 0;
-    uint64_t from = now();
-    for (size_t i = 0; i < CALLS; i++) {
-        lumbixet_wrote wrote = side->write(a->records[i % VARIANTS], a->time, frame, sizeof frame);
-        sum += wrote.length + frame[wrote.length - 1] + wrote.next.acknowledged;
-    }
-    uint64_t passed = since(from);
-    sink += sum;
-    return (double)passed / CALLS;
-}
-
-/* Blocks of packets are timed; the write between two blocks is not. Each answer is the next call's record, as a host
- * would assign it; the two are aligned, so that where they lie makes no difference between rows. */
-static double take_packets(const struct side *side, int kind, int round)
-{
-    (void)round;
-    const struct traffic *t = &traffic[kind / 2][kind % 2];
-    _Alignas(64) lumbixet_answer a = {0, t->start};
-    _Alignas(64) lumbixet_answer b;
-    uint8_t frame[FRAME_ROOM];
-    uint64_t passed = 0;
-    for (size_t block = WARM; block < WARM + PACKETS; block += BLOCK) {
-        uint64_t from = now();
-        for (size_t k = block; k < block + BLOCK; k += 2) {
-            b = side->packet(a.next, t->numbers[k], arrival(k), true, false);
-            a = side->packet(b.next, t->numbers[k + 1], arrival(k + 1), true, false);
-        }
-        passed += since(from);
-        sink += a.next.cause;
-        a.next = side->write(a.next, arrival(block + BLOCK - 1), frame, sizeof frame).next;
-    }
-    return (double)passed / PACKETS;
-}
-
-/* The same blocks, each in one call, and so at one time: nanoseconds for a packet. */
-static double stream_packets(const struct side *side, int kind, int round)
-{
-    (void)round;
-    const struct traffic *t = &traffic[kind / 2][kind % 2];
-    _Alignas(64) lumbixet_answer a = {0, t->start};
-    uint8_t frame[FRAME_ROOM];
-    uint64_t passed = 0;
-    for (size_t block = WARM; block < WARM + PACKETS; block += BLOCK) {
-        uint64_t time = arrival(block + BLOCK - 1);
-        uint64_t from = now();
-        a = side->stream(a.next, t->numbers + block, BLOCK, time, true, false);
-        passed += since(from);
-        sink += a.next.cause;
-        a.next = side->write(a.next, time, frame, sizeof frame).next;
-    }
-    return (double)passed / PACKETS;
-}
-
-/* The record waits for an ACK and the delay has not passed, as most looks at a timer find it. */
-static double look_at_timer(const struct side *side, int kind, int round)
-{
-    (void)kind;
-    (void)round;
-    const struct traffic *t = &traffic[IN_ORDER][0];
-    _Alignas(64) lumbixet_answer a = plain.packet(t->start, t->numbers[WARM], arrival(WARM), true, false);
-    _Alignas(64) lumbixet_answer b;
-    uint64_t from = now();
-    for (size_t i = 0; i < CALLS; i += 2) {
-        b = side->timer(a.next, arrival(WARM) + i);
-        a = side->timer(b.next, arrival(WARM) + i + 1);
-    }
-    uint64_t passed = since(from);
-    sink += a.result + a.next.cause;
-    return (double)passed / CALLS;
-}
-
-/* Neither side: in the timer's place a function that only copies. */
-static const struct side copies = {.timer = copy_record};
-
-static double read_reports(const struct side *side, int kind, int round)
-{
-    (void)kind;
-    (void)round;
-    uint64_t sum = 0;
-    uint64_t from = now();
-    for (size_t i = 0; i < CALLS; i++) {
-        lumbixet_report report = side->read_report(reports.bytes[i % VARIANTS], reports.lengths[i % VARIANTS]);
-        sum += report.header.total + report.header.entries;
-    }
-    uint64_t passed = since(from);
-    sink += sum;
-    return (double)passed / CALLS;
-}
-
-static double write_reports(const struct side *side, int kind, int round)
-{
-    (void)kind;
-    (void)round;
-    uint8_t buffer[FRAME_ROOM];
-    uint64_t sum = 0;
-    uint64_t from = now();
-    for (size_t i = 0; i < CALLS; i++) {
-        size_t v = i % VARIANTS;
-        lumbixet_written written = side->write_report(buffer, sizeof buffer, reports.headers[v], reports.records[v],
-                                                      sizeof reports.records[v]);
-        sum += written.next + buffer[written.next - 1];
-    }
-    uint64_t passed = since(from);
-    sink += sum;
-    return (double)passed / CALLS;
-}
-
-/* ---- the table */
+enum { PASSES = 20, ROUNDS = 20 };
 
 struct row {
     const char *what;
@@ -234,6 +38,9 @@ static const struct row rows[] = {
     {"report of 50 entries read", read_reports, 0},
     {"report of 50 entries written", write_reports, 0},
 };
+
+/* Neither side: in the timer's place a function that only copies. */
+static const struct side copies = {.timer = copy_record};
 
 /* The best round so far of each row: the archive, plain C. */
 static double best[sizeof rows / sizeof rows[0]][2];
@@ -296,8 +103,11 @@ static void print_machine(void)
 int main(void)
 {
     make_inputs();
-    uint64_t compared = compare_sides();
-    printf("Compared before timing: %" PRIu64 " answers, all the same on both sides.\n\n", compared);
+    compare_numbers();
+    compare_frames();
+    compare_receiver();
+    compare_reports();
+    printf("Compared before timing: %" PRIu64 " answers, all the same on both sides.\n\n", compared());
     measure_clock();
     print_machine();
     printf("Nanoseconds for one call; both sides take turns; two looks at the clock (%" PRIu64 " ns) are taken off.\n",

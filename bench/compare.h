@@ -1,11 +1,12 @@
-/* Whether both sides answer the same. */
+/* Whether both sides answer the same. Both get the same inputs: those that are timed, and made-up ones, many of which
+ * are refused. Every answer must be the same, with the next record and every element of lent memory. */
 #ifndef COMPARE_H
 #define COMPARE_H
 
-#include <stdint.h>
-
-/* Compares both sides on everything that is timed and on made-up inputs; a difference ends the program with status 1.
- * Answers how many answers were compared. */
-uint64_t compare_sides(void);
+/* Each compares one part of the header; a difference ends the program with status 1. */
+void compare_numbers(void);
+void compare_frames(void);
+void compare_receiver(void);
+void compare_reports(void);
 
 #endif

@@ -1,4 +1,4 @@
-/* Makes the inputs from fixed seeds. Records and frames come from the plain side; compare.c holds the archive to it. */
+/* Makes the inputs from fixed seeds. Records and frames come from the plain side; the comparisons hold the archive to it. */
 #include "inputs.h"
 
 #include <stdio.h>
@@ -111,22 +111,26 @@ static void make_record(uint8_t *record, uint64_t object, uint64_t *state)
         record[12 + i] = (uint8_t)(age >> (24 - 8 * i));
 }
 
+/* One statement for each number drawn: an initialiser leaves their order open. */
+static void make_header(lumbixet_header *h, uint64_t *state)
+{
+    *h = (lumbixet_header){.interval = 100000, .metrics = 2, .kinds = {0x02, 0x10}, .entries = ENTRIES};
+    h->timestamp = pick(state) % 100000000;
+    h->received = pick(state) % 100;
+    h->late = pick(state) % 10;
+    h->lost = pick(state) % 10;
+    h->average = (int64_t)(pick(state) % 4000) - 2000;
+    h->values[0] = pick(state) % 100000;
+    h->values[1] = pick(state) % 100;
+    h->total = h->received + h->late + h->lost;
+}
+
 static void make_reports(void)
 {
     uint64_t state = 4;
     for (size_t v = 0; v < VARIANTS; v++) {
         lumbixet_header *h = &reports.headers[v];
-        *h = (lumbixet_header){.timestamp = pick(&state) % 100000000,
-                               .interval = 100000,
-                               .received = pick(&state) % 100,
-                               .late = pick(&state) % 10,
-                               .lost = pick(&state) % 10,
-                               .average = (int64_t)(pick(&state) % 4000) - 2000,
-                               .metrics = 2,
-                               .kinds = {0x02, 0x10},
-                               .values = {pick(&state) % 100000, pick(&state) % 100},
-                               .entries = ENTRIES};
-        h->total = h->received + h->late + h->lost;
+        make_header(h, &state);
         uint64_t object = pick(&state) % 1000000;
         for (size_t i = 0; i < ENTRIES; i++) {
             object += 1 + pick(&state) % 2;

@@ -1,11 +1,12 @@
 //! Numbers on the wire and the three frames: whole, in longer forms, damaged at every byte, cut at every length.
 
 use crate::archive::*;
-use crate::compare_archive::{Call, Lent, Tally};
 use crate::frames::{put_frequency, put_immediate, read_ack, read_ack_into, read_frequency, read_immediate};
 use crate::made_up::{argument, up_to};
-use crate::numbers::{append, put, read, LARGEST};
+use crate::made_up_bytes::{append_in_some_form, damaged};
+use crate::numbers::{put, read, LARGEST};
 use crate::random::Random;
+use crate::tally::{Call, Lent, Tally};
 
 pub fn round(random: &mut Random, tally: &mut Tally) -> Result<(), String> {
     compare_read_number(random, tally)?;
@@ -20,39 +21,6 @@ pub fn round(random: &mut Random, tally: &mut Tally) -> Result<(), String> {
     };
     compare_readers(random, tally, &frame)?;
     damaged(random, &frame, |random, bytes| compare_readers(random, tally, bytes))
-}
-
-/// The bytes with each byte changed in turn, and cut at each length. Of long ones only some.
-pub fn damaged(
-    random: &mut Random,
-    whole: &[u8],
-    mut compare: impl FnMut(&mut Random, &[u8]) -> Result<(), String>,
-) -> Result<(), String> {
-    let step = 1 + whole.len() / 60;
-    let start = random.below(step as u64) as usize;
-    for place in (start..whole.len()).step_by(step) {
-        let mut bytes = whole.to_vec();
-        bytes[place] = match random.below(4) {
-            0 => random.any() as u8,
-            1 => bytes[place].wrapping_add(1),
-            2 => bytes[place].wrapping_sub(1),
-            _ => bytes[place] ^ 1 << random.below(8),
-        };
-        compare(random, &bytes)?;
-        compare(random, &whole[..place])?;
-    }
-    Ok(())
-}
-
-/// Appends a number, now and then in a longer form than needed.
-pub fn append_in_some_form(random: &mut Random, bytes: &mut Vec<u8>, value: u64) {
-    if random.chance(900) {
-        return append(bytes, value);
-    }
-    if value < 1 << 30 && random.chance(500) {
-        return bytes.extend_from_slice(&(2 << 30 | value as u32).to_be_bytes());
-    }
-    bytes.extend_from_slice(&(3 << 62 | value).to_be_bytes());
 }
 
 fn frequency_frame(random: &mut Random) -> Vec<u8> {

@@ -1,13 +1,13 @@
 //! The receiver's calls: on made-up records, and on records grown from an opening.
 
 use crate::archive::*;
-use crate::compare_archive::{Call, Lent, Tally};
 use crate::made_up::{argument, raw, reordering, up_to};
 use crate::numbers::LARGEST;
 use crate::random::Random;
 use crate::receiver::{immediate, open, packet, threshold, timer, write};
 use crate::record::{Record, WINDOW};
 use crate::refusals::ACCEPTED;
+use crate::tally::{Call, Lent, Tally};
 
 /// All calls on one made-up record.
 pub fn made_up(random: &mut Random, tally: &mut Tally) -> Result<(), String> {

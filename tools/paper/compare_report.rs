@@ -1,12 +1,12 @@
 //! The feedback report: written from made-up headers and records, read whole, damaged and cut.
 
 use crate::archive::*;
-use crate::compare_archive::{Call, Lent, Tally};
-use crate::compare_codec::{append_in_some_form, damaged};
 use crate::made_up::{argument, up_to};
+use crate::made_up_bytes::{append_in_some_form, damaged};
 use crate::numbers::LARGEST;
 use crate::random::Random;
 use crate::report::{find_entries, read_entry, read_report, write_report, Header, LARGEST_AVERAGE, RECORD, SMALLEST_AVERAGE};
+use crate::tally::{Call, Lent, Tally};
 
 pub fn round(random: &mut Random, tally: &mut Tally) -> Result<(), String> {
     let written = compare_write_report(random, tally)?;

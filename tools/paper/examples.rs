@@ -1,25 +1,11 @@
 //! The settled examples of document 01, and the published examples of RFC 9000, appendix A.1: one line for each.
 
+use crate::example_lines::Examples;
 use crate::replay;
 use crate::{examples_receiver, examples_report, examples_wire};
 
-pub struct Examples {
-    different: usize,
-}
-
-impl Examples {
-    pub fn check<T: PartialEq + std::fmt::Debug>(&mut self, name: &str, found: T, wanted: T) {
-        if found == wanted {
-            println!("ok         {name}");
-        } else {
-            println!("DIFFERENT  {name}: found {found:?}, wanted {wanted:?}");
-            self.different += 1;
-        }
-    }
-}
-
 pub fn run() -> Result<(), String> {
-    let mut examples = Examples { different: 0 };
+    let mut examples = Examples::default();
     examples_wire::check(&mut examples);
     examples_receiver::check(&mut examples);
     examples_report::check(&mut examples);
@@ -28,11 +14,6 @@ pub fn run() -> Result<(), String> {
         0 => Ok(()),
         count => Err(format!("{count} examples differ")),
     }
-}
-
-/// Bytes as the papers write them.
-pub fn hex(text: &str) -> Vec<u8> {
-    text.split_whitespace().map(|byte| u8::from_str_radix(byte, 16).expect("two hexadecimal digits")).collect()
 }
 
 fn replays(examples: &mut Examples) {

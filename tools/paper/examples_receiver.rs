@@ -1,6 +1,6 @@
 //! Examples of the receiver's calls.
 
-use crate::examples::{hex, Examples};
+use crate::example_lines::{hex, Examples};
 use crate::numbers::LARGEST;
 use crate::receiver::{immediate, open, packet, threshold, timer, write, NOT_DUE, ORDER};
 use crate::record::Record;

@@ -1,6 +1,6 @@
 //! Examples of the feedback report.
 
-use crate::examples::{hex, Examples};
+use crate::example_lines::{hex, Examples};
 use crate::numbers::LARGEST;
 use crate::report::{find_entries, read_entry, read_report, write_report, Entry, Header, LARGEST_AVERAGE, SMALLEST_AVERAGE};
 

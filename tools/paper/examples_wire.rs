@@ -1,6 +1,6 @@
 //! Examples of numbers on the wire and of the three frames.
 
-use crate::examples::{hex, Examples};
+use crate::example_lines::{hex, Examples};
 use crate::frames::{put_frequency, put_immediate, read_ack, read_ack_into, read_frequency, read_immediate, Frequency};
 use crate::numbers::{append, put, read, width, LARGEST};
 

@@ -17,6 +17,7 @@ mod compare_receiver;
 mod compare_replay;
 #[cfg(archive)]
 mod compare_report;
+mod example_lines;
 mod examples;
 mod examples_receiver;
 mod examples_report;
@@ -24,6 +25,8 @@ mod examples_wire;
 mod frames;
 #[cfg(archive)]
 mod made_up;
+#[cfg(archive)]
+mod made_up_bytes;
 mod numbers;
 mod random;
 mod receiver;
@@ -31,6 +34,8 @@ mod record;
 mod refusals;
 mod replay;
 mod report;
+#[cfg(archive)]
+mod tally;
 mod traces;
 
 use std::io::{self, Write};

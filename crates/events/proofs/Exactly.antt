@@ -11,7 +11,7 @@ use borrow.Author.Tests.{ne-eqb, eqb-false}
 use lib.Dec.{eqb}
 use lib.ListN.{length, getD, take, drop}
 use Rattle.wire.specs.Bytes.{pick, be}
-use Rattle.receiver.specs.declared.Micros.{Micros}
+use Rattle.seen.specs.declared.Micros.{Micros}
 use Rattle.receiver.specs.declared.Receiver.{Receiver}
 use Rattle.receiver.specs.declared.Answer.{Answer}
 use Rattle.receiver.specs.Packet.{packetCall}
@@ -21,7 +21,7 @@ use Rattle.receiver.specs.Emits.{writeRows}
 use Rattle.receiver.proofs.Exactly.{exactly, unchanged}
 use Rattle.receiver.proofs.Emits.{write-exactly, write-leaves}
 use Rattle.events.specs.declared.Event.{Event}
-use Rattle.events.specs.Events.{room, isEliciting, isMarked, writeCall, eventCall, foundCall, recordCall}
+use Rattle.events.specs.Events.{room, isEliciting, isMarked, writeCall, eventCall, readCall, recordCall}
 use Rattle.events.specs.Exactly.{Known, Exactly, RecordsExactly}
 use Rattle.events.proofs.Reading.{short, whole}
 
@@ -46,11 +46,11 @@ absent k (x ∷ rows) h e = go (x .applies) (eqb (x .number) (suc k)) refl h e (
 record Plain (a : Answer) (r : Receiver) : Type 0 where
   two : a .result ≡ 2 → ⊥
   three : a .result ≡ 3 → ⊥
-  kept : (a .result ≡ 0 → ⊥) → a .next ≡ r
+  untouched : (a .result ≡ 0 → ⊥) → a .next ≡ r
 
 plain : (a : Answer) (r : Receiver) (rows : List Row) → a .result ≡ first rows → numbered 2 rows ≡ false → numbered 3 rows ≡ false
     → ((a .result ≡ 0 → ⊥) → a .next ≡ r) → Plain a r
-plain a r rows e p q k = record { two = λ h. absent 1 rows p (sym e ∙ h); three = λ h. absent 2 rows q (sym e ∙ h); kept = k }
+plain a r rows e p q k = record { two = λ h. absent 1 rows p (sym e ∙ h); three = λ h. absent 2 rows q (sym e ∙ h); untouched = k }
 
 plain-write : (r : Receiver) (time : Micros) → Plain (writeCall r time) r
 unfolding writeCall
@@ -88,11 +88,11 @@ eventOf s = record { kind = getD s 0 0; flags = getD s 1 0; number = be 0 (take 
 module _ (s : List ℕ) (r : Receiver) where
   of-short : length s < 24 → recordCall s r ≡ record { result = 2; next = r }
   unfolding recordCall
-  of-short h = ap (λ f. foundCall f r) (sym (short s h))
+  of-short h = ap (λ f. readCall f r) (sym (short s h))
 
   of-whole : 24 ≤ length s → recordCall s r ≡ eventCall (eventOf s) r
   unfolding recordCall
-  of-whole h = ap (λ f. foundCall f r) (sym (whole s h refl refl))
+  of-whole h = ap (λ f. readCall f r) (sym (whole s h refl refl))
 
   when-short : length s < 24 → Exactly s r
   when-short h =
@@ -119,7 +119,7 @@ module _ (s : List ℕ) (r : Receiver) where
       record {
         two = ((λ q. absurd (p .two (sym e ∙ q))), (λ q. absurd (omega arith)));
         three = ((λ q. absurd (p .three (sym e ∙ q))), (λ q. absurd (q .1 k)));
-        unchanged = λ q. ap (λ (a : Answer). a .next) (of-whole h) ∙ p .kept (λ z. q (e ∙ z));
+        unchanged = λ q. ap (λ (a : Answer). a .next) (of-whole h) ∙ p .untouched (λ z. q (e ∙ z));
       }
 
 pub records-exactly : RecordsExactly

@@ -12,7 +12,7 @@ use Rattle.wire.specs.Bytes.{pick, be}
 use Rattle.wire.specs.Fields.{readFixed}
 use Rattle.wire.specs.declared.Number.{Number}
 use Rattle.wire.specs.declared.Number.the-variants.{Value, Ends}
-use Rattle.events.specs.declared.Found.the-variants.{Whole, Short}
+use Rattle.events.specs.declared.EventRead.the-variants.{Whole, Short}
 use Rattle.events.specs.Events.{readEvent}
 
 -- n is what a field's reader answered

@@ -5,15 +5,17 @@ use Rattle.wire.specs.Numbers.{firstFrom, form, encode, encodeAll}
 use Rattle.window.specs.Words.{numberOf, wordsOf, bit}
 use Rattle.window.specs.Window.{firstClear, runBelow}
 use Rattle.frames.specs.Ack.{gapsFrom, ackNumbers}
-use Rattle.receiver.specs.Record.{limitsRule, delayRule, seenConsistent, pendingConsistent, agreedConsistent, consistent}
-use Rattle.receiver.specs.Packet.{numberRefusal, packetRefusal, seenAfter, pendingAfter, firstMissing, outOfOrder, gapReached, order, congestion, firstCause, causeAfter, packetAfter, packetCall}
+use Rattle.seen.specs.Received.{seenConsistent, numberRefusal, seenAfter, firstMissing}
+use Rattle.receiver.specs.Record.{limitsRule, delayRule, pendingConsistent, agreedConsistent, consistent}
+use Rattle.receiver.specs.Packet.{packetRefusal, pendingAfter, outOfOrder, gapReached, order, congestion, firstCause, causeAfter, packetAfter, packetCall}
 use Rattle.receiver.specs.Calls.{opened}
-use Rattle.receiver.specs.Write.{rangesBelow, frame, largestWhere, kept, writeRefusal, written, writeAnswer}
+use Rattle.seen.specs.Ack.{rangesBelow, frame, largestWhere, rangesKept}
+use Rattle.receiver.specs.Write.{writeRefusal, written, writeAnswer}
 use Rattle.events.specs.Events.{readEvent, writeCall, eventCall, recordCall}
 use Rattle.events.specs.Lines.{placesFrom, placesOf, decimal, line}
 use Rattle.events.specs.Replay.{linesOf}
 use Rattle.events.specs.Settled.{SevenLines}
 
 pub seven-lines : SevenLines
-unfolding linesOf recordCall readEvent eventCall writeCall line decimal placesOf placesFrom opened packetCall packetRefusal numberRefusal consistent seenConsistent pendingConsistent agreedConsistent limitsRule delayRule packetAfter seenAfter pendingAfter causeAfter firstCause order outOfOrder gapReached firstMissing congestion numberOf wordsOf bit firstClear runBelow writeAnswer writeRefusal written kept largestWhere frame rangesBelow ackNumbers gapsFrom encodeAll encode form firstFrom
+unfolding linesOf recordCall readEvent eventCall writeCall line decimal placesOf placesFrom opened packetCall packetRefusal numberRefusal consistent seenConsistent pendingConsistent agreedConsistent limitsRule delayRule packetAfter seenAfter pendingAfter causeAfter firstCause order outOfOrder gapReached firstMissing congestion numberOf wordsOf bit firstClear runBelow writeAnswer writeRefusal written rangesKept largestWhere frame rangesBelow ackNumbers gapsFrom encodeAll encode form firstFrom
 seven-lines = refl

@@ -5,7 +5,7 @@ use mathlib.Core.List.{List}
 use lib.Dec.{leb, eqb}
 use lib.ListN.{length, getD, take, drop, replicate}
 use Rattle.wire.specs.Bytes.{pick, be}
-use Rattle.receiver.specs.declared.Micros.{Micros}
+use Rattle.seen.specs.declared.Micros.{Micros}
 use Rattle.receiver.specs.declared.Receiver.{Receiver}
 use Rattle.receiver.specs.declared.Answer.{Answer}
 use Rattle.receiver.specs.declared.Wrote.{Wrote}
@@ -13,8 +13,8 @@ use Rattle.receiver.specs.Packet.{packetCall}
 use Rattle.receiver.specs.Calls.{opened, timerCall, immediateCall}
 use Rattle.receiver.specs.Write.{writeAnswer}
 use Rattle.events.specs.declared.Event.{Event}
-use Rattle.events.specs.declared.Found.{Found}
-use Rattle.events.specs.declared.Found.the-variants.{Whole, Short}
+use Rattle.events.specs.declared.EventRead.{EventRead}
+use Rattle.events.specs.declared.EventRead.the-variants.{Whole, Short}
 
 -- ---- the record
 
@@ -23,7 +23,7 @@ abbrev pub recordLength : ℕ
 recordLength = 24
 
 -- "kind (..), flags (..), six ignored bytes, number, time, each 8 bytes high first"; fewer bytes are a short record
-unfoldable pub readEvent : List ℕ → Found
+unfoldable pub readEvent : List ℕ → EventRead
 readEvent s =
     pick (leb recordLength (length s))
     (Whole (record { kind = getD s 0 0; flags = getD s 1 0; number = be 0 (take 8 (drop 8 s)); time = record { 0 = be 0 (take 8 (drop 16 s)) } }))
@@ -62,10 +62,10 @@ eventCall e r =
     (pick (eqb (e .kind) 4) (immediateCall r) (record { result = 3; next = r }))))
 
 -- "a short last record prints 2"
-abbrev pub foundCall : Found → Receiver → Answer
-foundCall (Whole e) r = eventCall e r
-foundCall Short r = record { result = 2; next = r }
+abbrev pub readCall : EventRead → Receiver → Answer
+readCall (Whole e) r = eventCall e r
+readCall Short r = record { result = 2; next = r }
 
 -- the answer to the record at the start of the bytes
 unfoldable pub recordCall : List ℕ → Receiver → Answer
-recordCall s r = foundCall (readEvent s) r
+recordCall s r = readCall (readEvent s) r

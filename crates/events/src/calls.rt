@@ -2,14 +2,14 @@
 ghost use mathlib.Core.Path.{_≡_};
 ghost use Rattle.events.specs.Events.{readEvent, isEliciting, isMarked, writeCall, eventCall, recordCall};
 use crate::Event;
-use crate::Found;
+use crate::EventRead;
 use receiver::Answer;
-use receiver::Micros;
 use receiver::Receiver;
+use seen::Micros;
 use wire::Number;
 
 // Reads the event at the start of s.
-pub fn read_event(s: &[u8]) -> Found
+pub fn read_event(s: &[u8]) -> EventRead
     ensures { λ r. ⌜ r ≡ readEvent (now (s .entry)) ⌝ }
 {
     let Number::Value {
@@ -17,16 +17,16 @@ pub fn read_event(s: &[u8]) -> Found
         next: _,
     } = wire::read_fixed8(s, 8)
     else {
-        return Found::Short;
+        return EventRead::Short;
     };
     let Number::Value {
         value: time,
         next: _,
     } = wire::read_fixed8(s, 16)
     else {
-        return Found::Short;
+        return EventRead::Short;
     };
-    Found::Whole(Event {
+    EventRead::Whole(Event {
         kind: s[0],
         flags: s[1],
         number,
@@ -89,7 +89,7 @@ impl Event {
 pub fn answer(s: &[u8], receiver: Receiver) -> Answer
     ensures { λ r. ⌜ r ≡ recordCall (now (s .entry)) receiver ⌝ }
 {
-    let Found::Whole(event) = read_event(s) else {
+    let EventRead::Whole(event) = read_event(s) else {
         return Answer {
             result: 2,
             next: receiver,

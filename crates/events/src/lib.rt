@@ -3,9 +3,9 @@
 // Every public function takes any bytes, any receiver and any place; what reads and writes stands in the crate `play`.
 ghost use mathlib.Core.Path.{_≡_};
 ghost use Rattle.events.specs.Events.{opening};
-use receiver::Micros;
 use receiver::Millis;
 use receiver::Receiver;
+use seen::Micros;
 
 mod calls;
 mod lines;
@@ -28,8 +28,8 @@ pub struct Event {
     pub time: Micros,
 }
 
-// What the bytes of a record hold.
-pub enum Found {
+// What reading a record comes to.
+pub enum EventRead {
     Whole(Event),
     // The bytes end inside the record.
     Short,

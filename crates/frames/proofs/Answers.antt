@@ -7,7 +7,7 @@ use borrow.Author.Tests.{le-leb, lt-leb}
 use lib.ListN.{length}
 use Rattle.wire.specs.Bytes.{splice}
 use Rattle.wire.proofs.Reading.{yes, no}
-use Rattle.frames.specs.Ack.{rangesFrom, AckRead, refused, judged, readRanges}
+use Rattle.frames.specs.Ack.{rangesFrom, AckRead, refused, afterWalk, readRanges}
 use Rattle.frames.specs.declared.Walk.{Walk}
 use Rattle.frames.specs.declared.Walk.the-variants.{Whole, Ends, BelowZero}
 use Rattle.frames.specs.declared.Ack.{Ack}
@@ -22,9 +22,9 @@ joined e d = rw (e, d)
 
 -- w is how the walk ended
 module _ (s : List ℕ) (at largest delay count : ℕ) (xs : List ℕ) {w : Walk} (e : w ≡ rangesFrom count s at largest .walk) where
-  ended-so : (v : Walk) → w ≡ v → judged v largest delay count (rangesFrom count s at largest .pairs) xs ≡ readRanges s at largest delay count xs
+  ended-so : (v : Walk) → w ≡ v → afterWalk v largest delay count (rangesFrom count s at largest .pairs) xs ≡ readRanges s at largest delay count xs
   unfolding readRanges
-  ended-so v t = ap (λ (u : Walk). judged u largest delay count (rangesFrom count s at largest .pairs) xs) (sym t ∙ e)
+  ended-so v t = ap (λ (u : Walk). afterWalk u largest delay count (rangesFrom count s at largest .pairs) xs) (sym t ∙ e)
 
   pub ranges-cut : w ≡ Ends → refused Cut xs ≡ readRanges s at largest delay count xs
   ranges-cut t = ended-so Ends t

@@ -2,44 +2,47 @@
 -- Assumes nothing.
 use Prim.Native.Nat.{ℕ, suc, _+_, _-_, _*_, _/_, _≤_}
 use mathlib.Core.Path.{_≡_, refl, sym, ap, _∙_, subst}
-use mathlib.Core.Bool.{true}
 use mathlib.Core.List.{List, [], _∷_, _++_, append-assoc}
 use native.Mathlib.Nat.{zero-add}
 use native.Mathlib.Omega.{arith}
 use lib.Dec.{lit≤}
 use lib.ListN.{length, drop, getD}
 use Rattle.wire.specs.Bytes.{splice}
-use Rattle.wire.specs.Numbers.{limit, allSmall, widthOf, encode, encodeAll, readNumber, putAnswer, putBytes}
+use Rattle.wire.specs.Numbers.{limit, widthOf, encode, encodeAll, readNumber, putAnswer, putBytes}
+use Rattle.wire.specs.Exactly.{Small}
+use Rattle.wire.specs.Standing.{Stand, none, one}
 use Rattle.wire.specs.declared.Number.the-variants.{Value}
 use Rattle.wire.specs.declared.Put.the-variants.{Done}
 use Rattle.wire.proofs.Reading.{next}
 use Rattle.wire.proofs.RoundTrip.{read-encoded}
-use Rattle.frames.specs.Frames.{readFrequency, readImmediate, frequency, immediate}
+use Rattle.wire.proofs.Standing.{encoded-stand, put-done}
+use Rattle.frames.specs.Types.{frequencyType, immediateType, ackType}
+use Rattle.frames.specs.Frequency.{readFrequency, frequency}
+use Rattle.frames.specs.Immediate.{readImmediate, immediate}
 use Rattle.frames.specs.Ack.{Ranges, rangesFrom, readAck, gapsFrom, ackNumbers, RangesBelow, AckRanges}
-use Rattle.frames.specs.Exactly.{Stand, none, one}
+use Rattle.frames.specs.EachWay.{FrequencyWriteRead, ImmediateWriteRead, AckWriteRead}
 use Rattle.frames.specs.declared.Frequency.the-variants.{Frame}
 use Rattle.frames.specs.declared.Immediate.the-variants.{Frame as Alone}
 use Rattle.frames.specs.declared.Ack.the-variants.{Frame as Read}
 use Rattle.frames.specs.declared.Walk.the-variants.{Whole}
 use Rattle.frames.proofs.Types.{type-right}
-use Rattle.frames.proofs.Standing.{Fit, encoded-stand, fit-small, put-done}
 use Rattle.frames.proofs.Ranges.{last, more}
 use Rattle.frames.proofs.Answers.{accepted}
 
 -- ---- ACK_FREQUENCY and IMMEDIATE_ACK
 
 -- the numbers that stand there are those of the answer
-pub frequency-stands : {s : List ℕ} {q t d r used : ℕ} → Stand s 0 (frequency q t d r) used → readNumber s 0 ≡ Value 0xaf (widthOf 0xaf)
+pub frequency-stands : {s : List ℕ} {q t d r used : ℕ} → Stand s 0 (frequency q t d r) used → readNumber s 0 ≡ Value frequencyType (widthOf frequencyType)
     → readFrequency s ≡ Frame q t d r used
 frequency-stands {s} (one {mid = m} k (one a (one b (one c (one e none))))) w =
-    let n : m ≡ widthOf 0xaf = cc in
-    sym (type-right 0xaf refl s _ _ _ refl w refl refl (next _ _ refl (rw n at (sym a)) (next _ _ refl (sym b) (next _ _ refl (sym c) (next _ _ refl (sym e) refl)))))
+    let n : m ≡ widthOf frequencyType = cc in
+    sym (type-right frequencyType refl s _ _ _ refl w refl refl (next _ _ refl (rw n at (sym a)) (next _ _ refl (sym b) (next _ _ refl (sym c) (next _ _ refl (sym e) refl)))))
 
-pub immediate-stands : {s : List ℕ} {used : ℕ} → Stand s 0 immediate used → readNumber s 0 ≡ Value 0x1f (widthOf 0x1f) → readImmediate s ≡ Alone used
-immediate-stands {s} (one {mid = m} k none) w = let n : m ≡ widthOf 0x1f = cc in rw n (sym (type-right 0x1f refl s _ _ _ refl w refl refl refl))
+pub immediate-stands : {s : List ℕ} {used : ℕ} → Stand s 0 immediate used → readNumber s 0 ≡ Value immediateType (widthOf immediateType) → readImmediate s ≡ Alone used
+immediate-stands {s} (one {mid = m} k none) w = let n : m ≡ widthOf immediateType = cc in rw n (sym (type-right immediateType refl s _ _ _ refl w refl refl refl))
 
 -- the frame's numbers vs, written at the start of s, stand there, and the type in its shortest form
-module _ (kind : ℕ) (vs s tl : List ℕ) (f : Fit (kind ∷ vs)) (e : s ≡ encodeAll (kind ∷ vs) ++ tl) where
+module _ (kind : ℕ) (vs s tl : List ℕ) (f : Small (kind ∷ vs)) (e : s ≡ encodeAll (kind ∷ vs) ++ tl) where
   written-stands : Stand s 0 (kind ∷ vs) (length (encodeAll (kind ∷ vs)))
   written-stands = subst (Stand s 0 (kind ∷ vs)) (zero-add (length (encodeAll (kind ∷ vs)))) (encoded-stand (kind ∷ vs) s [] tl 0 f e refl)
 
@@ -54,27 +57,26 @@ pub frequency-back : (q t d r : ℕ) (tl : List ℕ) → q ≤ limit → t ≤ l
     → readFrequency (encodeAll (frequency q t d r) ++ tl) ≡ Frame q t d r (length (encodeAll (frequency q t d r)))
 frequency-back q t d r tl hq ht hd hr =
     let s : List ℕ = encodeAll (frequency q t d r) ++ tl in
-    let f : Fit (frequency q t d r) = (lit≤ tt, (hq, (ht, (hd, (hr, tt))))) in
-    frequency-stands (written-stands 0xaf (q ∷ t ∷ d ∷ r ∷ []) s tl f refl) (written-type 0xaf (q ∷ t ∷ d ∷ r ∷ []) s tl f refl)
+    let f : Small (frequency q t d r) = (lit≤ tt, (hq, (ht, (hd, (hr, tt))))) in
+    frequency-stands (written-stands frequencyType (q ∷ t ∷ d ∷ r ∷ []) s tl f refl) (written-type frequencyType (q ∷ t ∷ d ∷ r ∷ []) s tl f refl)
 
 pub immediate-back : (tl : List ℕ) → readImmediate (encodeAll immediate ++ tl) ≡ Alone (length (encodeAll immediate))
 immediate-back tl =
     let s : List ℕ = encodeAll immediate ++ tl in
-    let f : Fit immediate = (lit≤ tt, tt) in
-    immediate-stands (written-stands 0x1f [] s tl f refl) (written-type 0x1f [] s tl f refl)
+    let f : Small immediate = (lit≤ tt, tt) in
+    immediate-stands (written-stands immediateType [] s tl f refl) (written-type immediateType [] s tl f refl)
 
 -- what `put_frequency` wrote, `read_frequency` reads
-pub frequency-written : (xs : List ℕ) (q t d r used : ℕ) → putAnswer xs 0 (frequency q t d r) ≡ Done used
-    → readFrequency (putBytes xs 0 (frequency q t d r)) ≡ Frame q t d r used
-frequency-written xs q t d r used e =
+pub frequency-write-read : FrequencyWriteRead
+frequency-write-read xs q t d r used e =
     let w = put-done xs 0 (frequency q t d r) used e in
     let f = w .0 in
     rw (w .2, w .1, zero-add)
     (frequency-back q t d r (drop (length (encodeAll (frequency q t d r))) xs) (f .1 .0) (f .1 .1 .0) (f .1 .1 .1 .0) (f .1 .1 .1 .1 .0))
 
 -- what `put_immediate` wrote, `read_immediate` reads
-pub immediate-written : (xs : List ℕ) (used : ℕ) → putAnswer xs 0 immediate ≡ Done used → readImmediate (putBytes xs 0 immediate) ≡ Alone used
-immediate-written xs used e =
+pub immediate-write-read : ImmediateWriteRead
+immediate-write-read xs used e =
     let w = put-done xs 0 immediate used e in
     rw (w .2, w .1, zero-add) (immediate-back (drop (length (encodeAll immediate)) xs))
 
@@ -103,12 +105,12 @@ few-ranges (smallest ∷ []) lo b = absurd b
 few-ranges (smallest ∷ largest ∷ pairs) lo b = omega (arith, b .0, b .1, few-ranges pairs smallest (b .2))
 
 -- no gap or length is above the limit
-gaps-fit : (pairs : List ℕ) (lo : ℕ) → lo ≤ limit → RangesBelow lo pairs → Fit (gapsFrom lo pairs)
+gaps-small : (pairs : List ℕ) (lo : ℕ) → lo ≤ limit → RangesBelow lo pairs → Small (gapsFrom lo pairs)
 unfolding RangesBelow gapsFrom
-gaps-fit [] lo h b = tt
-gaps-fit (smallest ∷ []) lo h b = absurd b
-gaps-fit (smallest ∷ largest ∷ pairs) lo h b =
-    (omega arith, (omega (arith, b .1), gaps-fit pairs smallest (omega (arith, b .0, b .1)) (b .2)))
+gaps-small [] lo h b = tt
+gaps-small (smallest ∷ []) lo h b = absurd b
+gaps-small (smallest ∷ largest ∷ pairs) lo h b =
+    (omega arith, (omega (arith, b .1), gaps-small pairs smallest (omega (arith, b .0, b .1)) (b .2)))
 
 -- a list of ranges has two numbers for each
 even : (pairs : List ℕ) (lo : ℕ) → RangesBelow lo pairs → 2 * (length pairs / 2) ≡ length pairs
@@ -119,30 +121,27 @@ even (smallest ∷ largest ∷ pairs) lo b = omega (arith, even pairs smallest (
 
 -- with room for the ranges, the frame's numbers are the answer and the slice
 ack-stands : (s xs pairs : List ℕ) (delay lo hi used : ℕ) → lo ≤ hi → RangesBelow lo pairs → 2 * (length pairs / 2 + 1) ≤ length xs
-    → readNumber s 0 ≡ Value 0x02 (widthOf 0x02) → Stand s 0 (0x02 ∷ hi ∷ delay ∷ (length pairs / 2) ∷ (hi - lo) ∷ gapsFrom lo pairs) used
+    → readNumber s 0 ≡ Value ackType (widthOf ackType) → Stand s 0 (ackType ∷ hi ∷ delay ∷ (length pairs / 2) ∷ (hi - lo) ∷ gapsFrom lo pairs) used
     → readAck s xs ≡ record { answer = Read hi delay (length pairs / 2 + 1) used; slice = splice xs 0 (lo ∷ hi ∷ pairs) }
 ack-stands s xs pairs delay lo hi used h b room w (one {mid = m} k (one {mid = m1} a (one {mid = m2} c (one {mid = at} n t)))) =
-    let e : m ≡ widthOf 0x02 = cc in
+    let e : m ≡ widthOf ackType = cc in
     let r = ranges-stand pairs s at lo hi used h b t in
     let walked : Whole used ≡ rangesFrom (length pairs / 2) s at hi .walk = sym (ap (λ (x : Ranges). x .walk) r) in
     let wrote : splice xs 0 (lo ∷ hi ∷ pairs) ≡ splice xs 0 (rangesFrom (length pairs / 2) s at hi .pairs) = sym (ap (λ (x : Ranges). splice xs 0 (x .pairs)) r) in
     sym
-    (type-right 0x02 refl s _ _ _ refl w refl refl
+    (type-right ackType refl s _ _ _ refl w refl refl
     (next _ _ refl (rw e at (sym a)) (next _ _ refl (sym c) (next _ _ refl (sym n)
     (accepted s at hi delay (length pairs / 2) xs walked refl room wrote)))))
 
 -- no number of an ACK frame is above the limit, so its writer never answers 5
-pub ack-fit : (delay : ℕ) (pairs : List ℕ) → AckRanges pairs → delay ≤ limit → Fit (ackNumbers delay pairs)
+pub ack-small : (delay : ℕ) (pairs : List ℕ) → AckRanges pairs → delay ≤ limit → Small (ackNumbers delay pairs)
 unfolding AckRanges ackNumbers
-ack-fit delay [] r d = absurd r
-ack-fit delay (lo ∷ []) r d = absurd r
-ack-fit delay (lo ∷ hi ∷ pairs) r d =
+ack-small delay [] r d = absurd r
+ack-small delay (lo ∷ []) r d = absurd r
+ack-small delay (lo ∷ hi ∷ pairs) r d =
     let few : length pairs / 2 ≤ limit = omega (arith, few-ranges pairs lo (r .2), r .0, r .1) in
-    let gaps : Fit (gapsFrom lo pairs) = gaps-fit pairs lo (omega (arith, r .0, r .1)) (r .2) in
+    let gaps : Small (gapsFrom lo pairs) = gaps-small pairs lo (omega (arith, r .0, r .1)) (r .2) in
     (lit≤ tt, (r .1, (d, (few, (omega (arith, r .1), gaps)))))
-
-pub ack-small : (delay : ℕ) (pairs : List ℕ) → AckRanges pairs → delay ≤ limit → allSmall (ackNumbers delay pairs) ≡ true
-ack-small delay pairs r d = fit-small (ackNumbers delay pairs) (ack-fit delay pairs r d)
 
 -- an ACK frame that says given ranges is read as those ranges
 pub ack-back : (delay : ℕ) (pairs tl xs : List ℕ) → AckRanges pairs → delay ≤ limit → length pairs ≤ length xs
@@ -153,18 +152,15 @@ ack-back delay [] tl xs r d h = absurd r
 ack-back delay (lo ∷ []) tl xs r d h = absurd r
 ack-back delay (lo ∷ hi ∷ pairs) tl xs r d h =
     let vs : List ℕ = hi ∷ delay ∷ (length pairs / 2) ∷ (hi - lo) ∷ gapsFrom lo pairs in
-    let s : List ℕ = encodeAll (0x02 ∷ vs) ++ tl in
-    let f : Fit (0x02 ∷ vs) = ack-fit delay (lo ∷ hi ∷ pairs) r d in
+    let s : List ℕ = encodeAll (ackType ∷ vs) ++ tl in
+    let f : Small (ackType ∷ vs) = ack-small delay (lo ∷ hi ∷ pairs) r d in
     let n : length pairs / 2 + 1 ≡ suc (suc (length pairs)) / 2 = omega arith in
     rw (← n)
-    (ack-stands s xs pairs delay lo hi (length (encodeAll (0x02 ∷ vs))) (r .0) (r .2) (omega (arith, even pairs lo (r .2)))
-    (written-type 0x02 vs s tl f refl) (written-stands 0x02 vs s tl f refl))
+    (ack-stands s xs pairs delay lo hi (length (encodeAll (ackType ∷ vs))) (r .0) (r .2) (omega (arith, even pairs lo (r .2)))
+    (written-type ackType vs s tl f refl) (written-stands ackType vs s tl f refl))
 
 -- the same where it was written with `wire::put_numbers` at the start of a buffer
-pub ack-written : (buf xs pairs : List ℕ) (delay used : ℕ) → AckRanges pairs → delay ≤ limit → length pairs ≤ length xs
-    → putAnswer buf 0 (ackNumbers delay pairs) ≡ Done used
-    → readAck (putBytes buf 0 (ackNumbers delay pairs)) xs
-    ≡ record { answer = Read (getD pairs 1 0) delay (length pairs / 2) used; slice = splice xs 0 pairs }
-ack-written buf xs pairs delay used r d h e =
+pub ack-write-read : AckWriteRead
+ack-write-read buf xs pairs delay used r d h e =
     let w = put-done buf 0 (ackNumbers delay pairs) used e in
     rw (w .2, w .1, zero-add (length (encodeAll (ackNumbers delay pairs)))) (ack-back delay pairs (drop (length (encodeAll (ackNumbers delay pairs))) buf) xs r d h)

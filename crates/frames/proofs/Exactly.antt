@@ -2,6 +2,7 @@
 -- Assumes nothing.
 use Prim.Native.Nat.{ℕ, zero, suc, _+_, _-_, _*_, _≤_, _<_}
 use mathlib.Core.Path.{_≡_, refl, sym, ap}
+use mathlib.Core.Logic.{inl, inr}
 use mathlib.Core.Bool.{Bool, true, false}
 use mathlib.Core.List.{List, [], _∷_}
 use native.Mathlib.Nat.{add-zero}
@@ -12,15 +13,21 @@ use lib.ListN.{length}
 use Rattle.wire.specs.Bytes.{pick, splice}
 use Rattle.wire.specs.Fields.{field}
 use Rattle.wire.specs.Numbers.{widthOf, readNumber}
+use Rattle.wire.specs.Exactly.{OneOf}
 use Rattle.wire.proofs.Lengths.{split}
-use Rattle.frames.specs.Frames.{readThresholds}
-use Rattle.frames.specs.Ack.{Ranges, ended, before, range, below, rangesFrom, AckRead, refused, judged, readRanges, readAck}
+use Rattle.frames.specs.Types.{frequencyType, immediateType, ackType}
+use Rattle.frames.specs.Frequency.{readThresholds, readFrequency}
+use Rattle.frames.specs.Immediate.{readImmediate}
+use Rattle.frames.specs.Ack.{Ranges, ended, before, range, below, rangesFrom, AckRead, refused, afterWalk, readRanges, readAck}
 use Rattle.frames.specs.Refusals.{frequencyRefusal, immediateRefusal, ackRefusal}
 use Rattle.frames.specs.Exactly.{Reads, FrequencyReads, ImmediateReads, asked, count, down, Below, NotBelow, AckReads}
-use Rattle.frames.specs.declared.Frequency.the-variants.{Ends, OtherType}
-use Rattle.frames.specs.declared.Ack.the-variants.{Frame as Read, Ends as Cut', OtherType as OtherType', NoRoom}
+use Rattle.frames.specs.declared.Frequency.{Frequency}
+use Rattle.frames.specs.declared.Frequency.the-variants.{Frame, Ends, OtherType}
+use Rattle.frames.specs.declared.Ack.{Ack}
+use Rattle.frames.specs.declared.Ack.the-variants.{Frame as Read, Ends as Cut', OtherType as OtherType', BelowZero as Low, NoRoom}
 use Rattle.frames.specs.declared.Walk.{Walk}
 use Rattle.frames.specs.declared.Walk.the-variants.{Whole, Ends as Stops, BelowZero}
+use Rattle.frames.specs.declared.Immediate.{Immediate}
 use Rattle.frames.specs.declared.Immediate.the-variants.{Frame as Alone, Ends as Cut, OtherType as Another}
 use Rattle.frames.proofs.Rows.{Rows, FrameRows, nothing, at-once, never, here, field-rows, rows-map, frame-rows, through}
 
@@ -51,8 +58,8 @@ chain-rows (suc n) s at =
     (chain-rows n s next))
 
 frame-reads : {kind n : ℕ} {s : List ℕ} {refusal : ℕ} → FrameRows kind s refusal (λ vs. length vs < n) (λ vs. ⊥) (λ vs. ⊥) (λ vs. length vs ≡ n)
-    → Reads kind n s refusal
-frame-reads r = record { three = r .three; two = r .two; accepted = r .accepted }
+    → OneOf refusal (0 ∷ 2 ∷ 3 ∷ []) → Reads kind n s refusal
+frame-reads r o = record { three = r .three; two = r .two; accepted = r .accepted; others = o }
 
 four : (s : List ℕ) (at : ℕ) → frequencyRefusal (readThresholds s at) ≡ chain 4 s at
 unfolding chain
@@ -62,12 +69,30 @@ four s at =
     through frequencyRefusal (readNumber s at2) refl (λ d at3.
     through frequencyRefusal (readNumber s at3) refl (λ r used. refl))))
 
+-- the numbers of the readers' answers
+frequency-others : (a : Frequency) → OneOf (frequencyRefusal a) (0 ∷ 2 ∷ 3 ∷ [])
+frequency-others (Frame q t d r used) = inl refl
+frequency-others Ends = inr (inl refl)
+frequency-others OtherType = inr (inr (inl refl))
+
+immediate-others : (a : Immediate) → OneOf (immediateRefusal a) (0 ∷ 2 ∷ 3 ∷ [])
+immediate-others (Alone used) = inl refl
+immediate-others Cut = inr (inl refl)
+immediate-others Another = inr (inr (inl refl))
+
+ack-others : (a : Ack) → OneOf (ackRefusal a) (0 ∷ 2 ∷ 3 ∷ 9 ∷ 14 ∷ [])
+ack-others (Read l d ranges used) = inl refl
+ack-others Cut' = inr (inl refl)
+ack-others OtherType' = inr (inr (inl refl))
+ack-others NoRoom = inr (inr (inr (inl refl)))
+ack-others Low = inr (inr (inr (inr (inl refl))))
+
 pub frequency-reads : FrequencyReads
-frequency-reads s = frame-reads (frame-rows frequencyRefusal 0xaf s Ends OtherType _ refl refl (rw four (chain-rows 4 s (widthOf 0xaf))))
+frequency-reads s = frame-reads (frame-rows frequencyRefusal frequencyType s Ends OtherType _ refl refl (rw four (chain-rows 4 s (widthOf frequencyType)))) (frequency-others (readFrequency s))
 
 pub immediate-reads : ImmediateReads
 unfolding chain
-immediate-reads s = frame-reads (frame-rows immediateRefusal 0x1f s Cut Another Alone refl refl (chain-rows 0 s (widthOf 0x1f)))
+immediate-reads s = frame-reads (frame-rows immediateRefusal immediateType s Cut Another Alone refl refl (chain-rows 0 s (widthOf immediateType))) (immediate-others (readImmediate s))
 
 -- ---- ACK: the ranges
 
@@ -185,11 +210,11 @@ module _ (s : List ℕ) (total room : ℕ) where
 abbrev refusal : AckRead → ℕ
 refusal r = ackRefusal (r .answer)
 
-judged-told : (largest delay count : ℕ) (pairs xs : List ℕ) (w : Walk) → refusal (judged w largest delay count pairs xs) ≡ walkRefusal count (length xs) w
+after-walk-told : (largest delay count : ℕ) (pairs xs : List ℕ) (w : Walk) → refusal (afterWalk w largest delay count pairs xs) ≡ walkRefusal count (length xs) w
 unfolding walkRefusal
-judged-told largest delay count pairs xs Stops = refl
-judged-told largest delay count pairs xs BelowZero = refl
-judged-told largest delay count pairs xs (Whole used) = go (leb (2 * (count + 1)) (length xs))
+after-walk-told largest delay count pairs xs Stops = refl
+after-walk-told largest delay count pairs xs BelowZero = refl
+after-walk-told largest delay count pairs xs (Whole used) = go (leb (2 * (count + 1)) (length xs))
   where
     go : (b : Bool) → refusal (pick b (record { answer = Read largest delay (count + 1) used; slice = splice xs 0 pairs }) (refused NoRoom xs)) ≡ pick b 0 9
     go true = refl
@@ -204,7 +229,7 @@ ranges-rows : (s : List ℕ) (at largest delay count : ℕ) (xs : List ℕ)
     (λ vs. (length (largest ∷ delay ∷ count ∷ vs) ≡ 4 + 2 * count) × (down 0 vs ≤ largest) × (2 * (count + 1) ≤ length xs))
 unfolding readRanges StepRows told
 ranges-rows s at largest delay count xs =
-    rw judged-told
+    rw after-walk-told
     (rows-map
     (λ vs. (λ p. (omega (arith, p .0), p .1), λ p. (omega (arith, p .0), p .1)))
     (λ vs. (λ p. (omega (arith, p .0), p .1), λ p. (omega (arith, p .0), p .1)))
@@ -230,15 +255,15 @@ three-fields s xs at =
 pub ack-reads : AckReads
 unfolding down
 ack-reads s xs =
-    let r : FrameRows 0x02 s (refusal (readAck s xs))
+    let r : FrameRows ackType s (refusal (readAck s xs))
     (λ vs. (length vs < asked vs) × NotBelow vs)
     (λ vs. (length vs ≤ asked vs) × Below vs)
     (λ vs. (length vs ≡ asked vs) × NotBelow vs × (length xs < 2 * (count vs + 1)))
     (λ vs. (length vs ≡ asked vs) × NotBelow vs × (2 * (count vs + 1) ≤ length xs)) =
-    frame-rows refusal 0x02 s (refused Cut' xs) (refused OtherType' xs) _ refl refl
+    frame-rows refusal ackType s (refused Cut' xs) (refused OtherType' xs) _ refl refl
     (rw three-fields
     (field-rows (omega arith, omega arith) (λ p. omega (arith, p .1)) (λ p. omega (arith, p .0)) (λ p. omega (arith, p .0)) (λ largest at1.
     field-rows (omega arith, omega arith) (λ p. omega (arith, p .1)) (λ p. omega (arith, p .0)) (λ p. omega (arith, p .0)) (λ delay at2.
     field-rows (omega arith, omega arith) (λ p. omega (arith, p .1)) (λ p. omega (arith, p .0)) (λ p. omega (arith, p .0)) (λ count at3.
     ranges-rows s at3 largest delay count xs))))) in
-    record { three = r .three; two = r .two; fourteen = r .fourteen; nine = r .nine; accepted = r .accepted }
+    record { three = r .three; two = r .two; fourteen = r .fourteen; nine = r .nine; accepted = r .accepted; others = ack-others (readAck s xs .answer) }

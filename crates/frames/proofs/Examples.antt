@@ -5,7 +5,8 @@ use mathlib.Core.Path.{_≡_, refl}
 use mathlib.Core.List.{List, [], _∷_, _++_}
 use Rattle.wire.specs.Fields.{readFixed}
 use Rattle.wire.specs.Numbers.{firstFrom, widthOf, readForm, readNumber, encode, encodeAll, form}
-use Rattle.frames.specs.Frames.{readFrequency, readImmediate}
+use Rattle.frames.specs.Frequency.{readFrequency}
+use Rattle.frames.specs.Immediate.{readImmediate}
 use Rattle.frames.specs.Ack.{rangesFrom, readRanges, readAck, refused, gapsFrom, ackNumbers}
 use Rattle.frames.specs.Refusals.{frequencyRefusal, immediateRefusal}
 use Rattle.frames.specs.declared.Frequency.the-variants.{Frame}

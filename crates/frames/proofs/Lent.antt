@@ -14,7 +14,8 @@ use Rattle.wire.specs.Fields.{field}
 use Rattle.wire.specs.Numbers.{widthOf, readNumber}
 use Rattle.wire.specs.declared.Number.{Number}
 use Rattle.wire.specs.declared.Number.the-variants.{Value, Ends as Stops}
-use Rattle.frames.specs.Ack.{Ranges, ended, before, below, rangesFrom, AckRead, refused, judged, readRanges, readAck}
+use Rattle.frames.specs.Types.{ackType}
+use Rattle.frames.specs.Ack.{Ranges, ended, before, below, rangesFrom, AckRead, refused, afterWalk, readRanges, readAck}
 use Rattle.frames.specs.Refusals.{ackRefusal}
 use Rattle.frames.specs.Exactly.{AckUnchanged, AckLater}
 use Rattle.frames.specs.declared.Walk.{Walk}
@@ -79,7 +80,7 @@ kept-ranges s at largest delay count xs = go (rangesFrom count s at largest .wal
     ps : List ℕ
     ps = rangesFrom count s at largest .pairs
 
-    go : (w : Walk) → ((used : ℕ) → w ≡ Whole used → length ps ≡ 2 * suc count) → Kept xs (judged w largest delay count ps xs)
+    go : (w : Walk) → ((used : ℕ) → w ≡ Whole used → length ps ≡ 2 * suc count) → Kept xs (afterWalk w largest delay count ps xs)
     go Ends p = kept-refused Cut xs
     go BelowZero p = kept-refused Below xs
     go (Whole used) p =
@@ -97,8 +98,8 @@ kept-ranges s at largest delay count xs = go (rangesFrom count s at largest .wal
 kept : (s xs : List ℕ) → Kept xs (readAck s xs)
 kept s xs =
     field-all (Kept xs) (readNumber s 0) (kept-refused Cut xs) (λ kind at.
-    pick-all (Kept xs) (eqb kind 0x02)
-    (pick-all (Kept xs) (eqb at (widthOf 0x02))
+    pick-all (Kept xs) (eqb kind ackType)
+    (pick-all (Kept xs) (eqb at (widthOf ackType))
     (field-all (Kept xs) (readNumber s at) (kept-refused Cut xs) (λ largest at1.
     field-all (Kept xs) (readNumber s at1) (kept-refused Cut xs) (λ delay at2.
     field-all (Kept xs) (readNumber s at2) (kept-refused Cut xs) (λ count at3.

@@ -1,11 +1,12 @@
 pub mod Types
 pub mod Ranges
 pub mod Answers
-pub mod Standing
 pub mod Back
 pub mod Shortest
+pub mod Accepted
 pub mod Rows
 pub mod Exactly
+pub mod Writers
 pub mod Lent
 pub mod Only
 pub mod Examples

@@ -3,16 +3,16 @@
 use mathlib.Core.Path.{sym, _∙_}
 use denote.Ref.{now}
 use Rattle.wire.proofs.Only.{OneAnswer, OneBuffer}
-use Rattle.frames.proofs.read_frequency.Reads as read-frequency
-use Rattle.frames.proofs.read_frequency.Kinds as read-frequency-kinds
-use Rattle.frames.proofs.read_immediate.Reads as read-immediate
-use Rattle.frames.proofs.read_immediate.Kinds as read-immediate-kinds
-use Rattle.frames.proofs.read_ack.Reads as read-ack
-use Rattle.frames.proofs.read_ack.Kinds as read-ack-kinds
-use Rattle.frames.proofs.put_frequency.Reads as put-frequency
-use Rattle.frames.proofs.put_frequency.Kinds as put-frequency-kinds
-use Rattle.frames.proofs.put_immediate.Reads as put-immediate
-use Rattle.frames.proofs.put_immediate.Kinds as put-immediate-kinds
+use Rattle.frames.proofs.frequency_frame.read_frequency.Reads as read-frequency
+use Rattle.frames.proofs.frequency_frame.read_frequency.Kinds as read-frequency-kinds
+use Rattle.frames.proofs.immediate_frame.read_immediate.Reads as read-immediate
+use Rattle.frames.proofs.immediate_frame.read_immediate.Kinds as read-immediate-kinds
+use Rattle.frames.proofs.ack_frame.read_ack.Reads as read-ack
+use Rattle.frames.proofs.ack_frame.read_ack.Kinds as read-ack-kinds
+use Rattle.frames.proofs.frequency_frame.put_frequency.Reads as put-frequency
+use Rattle.frames.proofs.frequency_frame.put_frequency.Kinds as put-frequency-kinds
+use Rattle.frames.proofs.immediate_frame.put_immediate.Reads as put-immediate
+use Rattle.frames.proofs.immediate_frame.put_immediate.Kinds as put-immediate-kinds
 use Rattle.frames.proofs.Frequency.refusal.Reads as frequency-refusal
 use Rattle.frames.proofs.Frequency.refusal.Kinds as frequency-refusal-kinds
 use Rattle.frames.proofs.Immediate.refusal.Reads as immediate-refusal

@@ -11,10 +11,11 @@ use lib.Dec.{eqb}
 use Rattle.wire.specs.Bytes.{pick}
 use Rattle.wire.specs.Fields.{field}
 use Rattle.wire.specs.Numbers.{widthOf, readNumber}
+use Rattle.wire.specs.Standing.{Stand, none, one}
 use Rattle.wire.specs.declared.Number.{Number}
 use Rattle.wire.specs.declared.Number.the-variants.{Value, Ends}
-use Rattle.frames.specs.Frames.{typed}
-use Rattle.frames.specs.Exactly.{Stand, none, one, From, After, OtherType, Cut}
+use Rattle.frames.specs.Types.{typed}
+use Rattle.frames.specs.Exactly.{From, After, OtherType, Cut}
 
 -- the rows of what is read from at on, by what the numbers read there are to be
 pub record Rows (s : List ℕ) (at refusal : ℕ) (cut low short whole : List ℕ → Type 0) : Type 0 where

@@ -7,31 +7,32 @@ use mathlib.Core.List.{List}
 use native.Mathlib.Omega.{arith}
 use borrow.Author.Tests.{eqb-true}
 use lib.Dec.{eqb}
-use lib.ListN.{length, take}
-use Rattle.wire.specs.Bytes.{pick}
+use Rattle.wire.specs.Bytes.{pick, Octets}
 use Rattle.wire.specs.Fields.{field}
-use Rattle.wire.specs.Numbers.{widthOf, encodeAll, readNumber, putBytes}
+use Rattle.wire.specs.Numbers.{widthOf, readNumber}
+use Rattle.wire.specs.Standing.{Stand, none, one}
 use Rattle.wire.specs.declared.Number.{Number}
 use Rattle.wire.specs.declared.Number.the-variants.{Value, Ends}
-use Rattle.wire.proofs.Bytes.{Octets}
-use Rattle.frames.specs.Frames.{typed, readFrequency, readImmediate, frequency, immediate}
-use Rattle.frames.specs.Exactly.{Stand, none, one}
+use Rattle.wire.proofs.Standing.{stand-kept}
+use Rattle.frames.specs.Types.{frequencyType, immediateType, typed}
+use Rattle.frames.specs.Frequency.{readFrequency, frequency}
+use Rattle.frames.specs.Immediate.{readImmediate, immediate}
+use Rattle.frames.specs.EachWay.{Shortest, FrequencyReadWrite, ImmediateReadWrite}
 use Rattle.frames.specs.declared.Frequency.the-variants.{Frame, Ends as Cut, OtherType}
 use Rattle.frames.specs.declared.Immediate.the-variants.{Frame as Alone, Ends as CutAlone, OtherType as Another}
-use Rattle.frames.proofs.Standing.{stand-kept}
 
 -- ---- an answer that is no refusal tells what was read
 
-field-read : {R : Type 0} (r : Number) {x y : R} {f : ℕ → ℕ → R} → field r x f ≡ y → (x ≡ y → ⊥)
+pub field-read : {R : Type 0} (r : Number) {x y : R} {f : ℕ → ℕ → R} → field r x f ≡ y → (x ≡ y → ⊥)
     → (v : ℕ) × (n : ℕ) × (r ≡ Value v n) × (f v n ≡ y)
 field-read (Value v n) e f = (v, n, refl, e)
 field-read Ends e f = absurd (f e)
 
-test-held : {R : Type 0} (b : Bool) {x y z : R} → pick b x z ≡ y → (z ≡ y → ⊥) → (b ≡ true) × (x ≡ y)
+pub test-held : {R : Type 0} (b : Bool) {x y z : R} → pick b x z ≡ y → (z ≡ y → ⊥) → (b ≡ true) × (x ≡ y)
 test-held true e f = (refl, e)
 test-held false e f = absurd (f e)
 
-type-read : {R : Type 0} (kind : ℕ) (s : List ℕ) {ends other y : R} (f : ℕ → R)
+pub type-read : {R : Type 0} (kind : ℕ) (s : List ℕ) {ends other y : R} (f : ℕ → R)
     → typed kind s ends other f ≡ y → (ends ≡ y → ⊥) → (other ≡ y → ⊥)
     → (readNumber s 0 ≡ Value kind (widthOf kind)) × (f (widthOf kind) ≡ y)
 type-read kind s f e not-cut not-other =
@@ -53,8 +54,8 @@ module _ (s : List ℕ) (q t d r used : ℕ) (e : readFrequency s ≡ Frame q t 
 
   pub frequency-read : Stand s 0 (frequency q t d r) used
   frequency-read =
-      let k = type-read 0xaf s _ e no-cut no-other in
-      let a = field-read (readNumber s (widthOf 0xaf)) (k .1) no-cut in
+      let k = type-read frequencyType s _ e no-cut no-other in
+      let a = field-read (readNumber s (widthOf frequencyType)) (k .1) no-cut in
       let b = field-read (readNumber s (a .1)) (a .3) no-cut in
       let c = field-read (readNumber s (b .1)) (b .3) no-cut in
       let f = field-read (readNumber s (c .1)) (c .3) no-cut in
@@ -70,11 +71,6 @@ module _ (s : List ℕ) (q t d r used : ℕ) (e : readFrequency s ≡ Frame q t 
           let h5 : used' ≡ used = cc in
           rw (h1, h2, h3, h4, h5) at st
 
-  -- "Writers use the shortest": the frame is the writer's, and writing it over s changes nothing
-  pub frequency-shortest : Octets s → used ≡ length (encodeAll (frequency q t d r))
-      → (take used s ≡ encodeAll (frequency q t d r)) × (putBytes s 0 (frequency q t d r) ≡ s)
-  frequency-shortest o l = stand-kept s o frequency-read l
-
 -- ---- IMMEDIATE_ACK
 
 module _ (s : List ℕ) (used : ℕ) (e : readImmediate s ≡ Alone used) where
@@ -86,11 +82,19 @@ module _ (s : List ℕ) (used : ℕ) (e : readImmediate s ≡ Alone used) where
 
   pub immediate-read : Stand s 0 immediate used
   immediate-read =
-      let k = type-read 0x1f s Alone e no-cut-alone no-another in
+      let k = type-read immediateType s Alone e no-cut-alone no-another in
       same (k .1) (one (k .0) none)
     where
       same : {used' : ℕ} → Alone used' ≡ Alone used → Stand s 0 immediate used' → Stand s 0 immediate used
       same {used'} h st = let h1 : used' ≡ used = cc in rw h1 at st
 
-  pub immediate-shortest : Octets s → used ≡ length (encodeAll immediate) → (take used s ≡ encodeAll immediate) × (putBytes s 0 immediate ≡ s)
-  immediate-shortest o l = stand-kept s o immediate-read l
+-- ---- "Writers use the shortest": such a frame is the writer's
+
+pub encodes : {s vs : List ℕ} {used : ℕ} → Octets s → Stand s 0 vs used → Shortest s used vs
+encodes {s} o t l = let k = stand-kept s o t l in record { bytes = k .0; same = k .1 }
+
+pub frequency-read-write : FrequencyReadWrite
+frequency-read-write s q t d r used o e = encodes o (frequency-read s q t d r used e)
+
+pub immediate-read-write : ImmediateReadWrite
+immediate-read-write s used o e = encodes o (immediate-read s used e)

@@ -8,18 +8,18 @@ use Rattle.wire.specs.Numbers.{firstFrom, widthOf, readNumber}
 use Rattle.wire.specs.declared.Number.{Number}
 use Rattle.wire.specs.declared.Number.the-variants.{Value, Ends}
 use Rattle.wire.proofs.Reading.{stop, next, yes, no}
-use Rattle.frames.specs.Frames.{typed}
+use Rattle.frames.specs.Types.{frequencyType, immediateType, ackType, typed}
 
 -- "written 40 af", "type 1f alone", "type 02"
-pub frequency-width : widthOf 0xaf ≡ 2
+pub frequency-width : widthOf frequencyType ≡ 2
 unfolding widthOf firstFrom
 frequency-width = refl
 
-pub immediate-width : widthOf 0x1f ≡ 1
+pub immediate-width : widthOf immediateType ≡ 1
 unfolding widthOf firstFrom
 immediate-width = refl
 
-pub ack-width : widthOf 0x02 ≡ 1
+pub ack-width : widthOf ackType ≡ 1
 unfolding widthOf firstFrom
 ack-width = refl
 

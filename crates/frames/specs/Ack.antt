@@ -10,7 +10,7 @@ use Rattle.frames.specs.declared.Walk.{Walk}
 use Rattle.frames.specs.declared.Walk.the-variants.{Whole, Ends, BelowZero}
 use Rattle.frames.specs.declared.Ack.{Ack}
 use Rattle.frames.specs.declared.Ack.the-variants.{Frame, Ends as Cut, OtherType, BelowZero as Below, NoRoom}
-use Rattle.frames.specs.Frames.{typed}
+use Rattle.frames.specs.Types.{ackType, typed}
 
 -- ---- the ranges
 
@@ -57,10 +57,10 @@ abbrev pub refused : Ack → List ℕ → AckRead
 refused a xs = record { answer = a; slice = xs }
 
 -- "checks the whole frame, 2 and 14 included, before it judges room": two elements for each range
-abbrev pub judged : Walk → ℕ → ℕ → ℕ → List ℕ → List ℕ → AckRead
-judged Ends largest delay count pairs xs = refused Cut xs
-judged BelowZero largest delay count pairs xs = refused Below xs
-judged (Whole used) largest delay count pairs xs =
+abbrev pub afterWalk : Walk → ℕ → ℕ → ℕ → List ℕ → List ℕ → AckRead
+afterWalk Ends largest delay count pairs xs = refused Cut xs
+afterWalk BelowZero largest delay count pairs xs = refused Below xs
+afterWalk (Whole used) largest delay count pairs xs =
     pick (leb (2 * (count + 1)) (length xs))
     (record { answer = Frame largest delay (count + 1) used; slice = splice xs 0 pairs })
     (refused NoRoom xs)
@@ -68,12 +68,12 @@ judged (Whole used) largest delay count pairs xs =
 -- the walk over the ranges from at on, and what is made of it
 unfoldable pub readRanges : List ℕ → ℕ → ℕ → ℕ → ℕ → List ℕ → AckRead
 readRanges s at largest delay count xs =
-    judged (rangesFrom count s at largest .walk) largest delay count (rangesFrom count s at largest .pairs) xs
+    afterWalk (rangesFrom count s at largest .walk) largest delay count (rangesFrom count s at largest .pairs) xs
 
 -- "type 02, largest, delay, range count", then the ranges
 abbrev pub readAck : List ℕ → List ℕ → AckRead
 readAck s xs =
-    typed 0x02 s (refused Cut xs) (refused OtherType xs) (λ at0.
+    typed ackType s (refused Cut xs) (refused OtherType xs) (λ at0.
     field (readNumber s at0) (refused Cut xs) (λ largest at1.
     field (readNumber s at1) (refused Cut xs) (λ delay at2.
     field (readNumber s at2) (refused Cut xs) (λ count at3.
@@ -92,7 +92,7 @@ unfoldable pub ackNumbers : ℕ → List ℕ → List ℕ
 ackNumbers delay [] = []
 ackNumbers delay (smallest ∷ []) = []
 ackNumbers delay (smallest ∷ largest ∷ pairs) =
-    0x02 ∷ largest ∷ delay ∷ (length pairs / 2) ∷ (largest - smallest) ∷ gapsFrom smallest pairs
+    ackType ∷ largest ∷ delay ∷ (length pairs / 2) ∷ (largest - smallest) ∷ gapsFrom smallest pairs
 
 -- each range holds a number, and a number is missing between it and the one above
 unfoldable pub RangesBelow : ℕ → List ℕ → Type 0

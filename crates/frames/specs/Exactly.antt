@@ -1,22 +1,22 @@
--- The rows of the refusal table for the three frames: each number is given exactly when its row says, in the table's order.
+-- The rows of the refusal table for the three frames: each number is given exactly when its row says, in the table's order, and no other number.
 use Prim.Native.Nat.{ℕ, _+_, _-_, _*_, _≤_, _<_}
 use mathlib.Core.Path.{_≡_}
 use mathlib.Core.Logic.{_↔_, _⊎_}
 use mathlib.Core.List.{List, [], _∷_}
 use lib.ListN.{length, getD, drop}
-use Rattle.wire.specs.Numbers.{widthOf, readNumber}
+use Rattle.wire.specs.Numbers.{widthOf, encodeAll, readNumber, putAnswer}
+use Rattle.wire.specs.Refusals.{putRefusal}
+use Rattle.wire.specs.Exactly.{OneOf, Writes, Places}
+use Rattle.wire.specs.Standing.{Stand}
 use Rattle.wire.specs.declared.Number.the-variants.{Value, Ends}
-use Rattle.frames.specs.Frames.{readFrequency, readImmediate}
+use Rattle.frames.specs.Types.{frequencyType, immediateType, ackType}
+use Rattle.frames.specs.Frequency.{readFrequency, frequency}
+use Rattle.frames.specs.Immediate.{readImmediate, immediate}
 use Rattle.frames.specs.Ack.{readAck}
 use Rattle.frames.specs.Refusals.{frequencyRefusal, immediateRefusal, ackRefusal}
 use Rattle.frames.specs.declared.Ack.the-variants.{Frame}
 
 -- ---- what stands in the bytes
-
--- the numbers stand one after the other from at on, and next is the place after them
-pub data Stand (s : List ℕ) : ℕ → List ℕ → ℕ → Type 0 where
-  none : {at : ℕ} → Stand s at [] at
-  one : {at v mid next : ℕ} {vs : List ℕ} → readNumber s at ≡ Value v mid → Stand s mid vs next → Stand s at (v ∷ vs) next
 
 -- numbers of which P holds stand from at on
 pub record From (s : List ℕ) (at : ℕ) (P : List ℕ → ℕ → Type 0) : Type 0 where
@@ -48,14 +48,15 @@ pub record Reads (kind n : ℕ) (s : List ℕ) (refusal : ℕ) : Type 0 where
   pub three : refusal ≡ 3 ↔ OtherType kind s
   pub two : refusal ≡ 2 ↔ Cut kind s (λ vs. length vs < n)
   pub accepted : refusal ≡ 0 ↔ After kind s (λ vs next. length vs ≡ n)
+  pub others : OneOf refusal (0 ∷ 2 ∷ 3 ∷ [])
 
 -- ACK_FREQUENCY: four numbers
 abbrev pub FrequencyReads : Type 0
-FrequencyReads = (s : List ℕ) → Reads 0xaf 4 s (frequencyRefusal (readFrequency s))
+FrequencyReads = (s : List ℕ) → Reads frequencyType 4 s (frequencyRefusal (readFrequency s))
 
 -- IMMEDIATE_ACK: "type 1f alone"
 abbrev pub ImmediateReads : Type 0
-ImmediateReads = (s : List ℕ) → Reads 0x1f 0 s (immediateRefusal (readImmediate s))
+ImmediateReads = (s : List ℕ) → Reads immediateType 0 s (immediateRefusal (readImmediate s))
 
 -- ---- ACK: vs are the numbers after its type, as far as they were read
 
@@ -84,17 +85,29 @@ Below vs = largest vs < down 0 (drop 3 vs)
 abbrev pub NotBelow : List ℕ → Type 0
 NotBelow vs = down 0 (drop 3 vs) ≤ largest vs
 
--- 14 and 2 are judged number by number, and 9 last: two elements of room for each range
+-- 14 and 2 are afterWalk number by number, and 9 last: two elements of room for each range
 pub record ReadsAck (s : List ℕ) (room refusal : ℕ) : Type 0 where
-  pub three : refusal ≡ 3 ↔ OtherType 0x02 s
-  pub two : refusal ≡ 2 ↔ Cut 0x02 s (λ vs. (length vs < asked vs) × NotBelow vs)
-  pub fourteen : refusal ≡ 14 ↔ After 0x02 s (λ vs next. (length vs ≤ asked vs) × Below vs)
-  pub nine : refusal ≡ 9 ↔ After 0x02 s (λ vs next. (length vs ≡ asked vs) × NotBelow vs × (room < 2 * (count vs + 1)))
-  pub accepted : refusal ≡ 0 ↔ After 0x02 s (λ vs next. (length vs ≡ asked vs) × NotBelow vs × (2 * (count vs + 1) ≤ room))
+  pub three : refusal ≡ 3 ↔ OtherType ackType s
+  pub two : refusal ≡ 2 ↔ Cut ackType s (λ vs. (length vs < asked vs) × NotBelow vs)
+  pub fourteen : refusal ≡ 14 ↔ After ackType s (λ vs next. (length vs ≤ asked vs) × Below vs)
+  pub nine : refusal ≡ 9 ↔ After ackType s (λ vs next. (length vs ≡ asked vs) × NotBelow vs × (room < 2 * (count vs + 1)))
+  pub accepted : refusal ≡ 0 ↔ After ackType s (λ vs next. (length vs ≡ asked vs) × NotBelow vs × (2 * (count vs + 1) ≤ room))
+  pub others : OneOf refusal (0 ∷ 2 ∷ 3 ∷ 9 ∷ 14 ∷ [])
 
 -- ACK, with the lent slice xs
 abbrev pub AckReads : Type 0
 AckReads = (s xs : List ℕ) → ReadsAck s (length xs) (ackRefusal (readAck s xs .answer))
+
+-- ---- the writers: "5, then 9"
+
+-- ACK_FREQUENCY: 5 for one of its four numbers, 9 where the frame does not fit
+abbrev pub FrequencyWrites : Type 0
+FrequencyWrites =
+    (xs : List ℕ) (q t d r : ℕ) → Writes (putRefusal (putAnswer xs 0 (frequency q t d r))) (length xs) (length (encodeAll (frequency q t d r))) (q ∷ t ∷ d ∷ r ∷ [])
+
+-- IMMEDIATE_ACK: 9 where there is no byte
+abbrev pub ImmediateWrites : Type 0
+ImmediateWrites = (xs : List ℕ) → Places (putRefusal (putAnswer xs 0 immediate)) (length xs) 1
 
 -- ---- the lent slice
 

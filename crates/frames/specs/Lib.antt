@@ -1,4 +1,7 @@
-pub mod Frames
+pub mod Types
+pub mod Frequency
+pub mod Immediate
 pub mod Ack
 pub mod Refusals
 pub mod Exactly
+pub mod EachWay

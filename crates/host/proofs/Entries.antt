@@ -7,13 +7,13 @@ use mathlib.Core.List.{List}
 use native.Mathlib.Omega.{arith}
 use lib.ListN.{length, take, drop, length-drop}
 use lib.Seq.{length-take-le}
-use Rattle.report.specs.Limits.{recordSize}
+use Rattle.entries.specs.Limits.{recordSize}
 use Rattle.report.specs.Header.{countOf}
-use Rattle.report.specs.Entries.{withStatus}
-use Rattle.report.specs.declared.Status.{Status}
-use Rattle.report.specs.declared.Status.the-variants.{Received, Late, NotReceived, Partial}
-use Rattle.report.specs.declared.Entry.the-variants.{Record}
-use Rattle.report.specs.Reader.{Reading, Whole, Stopped, partOf, judged, entriesIn, entriesOf}
+use Rattle.entries.specs.Entries.{withStatus}
+use Rattle.entries.specs.declared.Status.{Status}
+use Rattle.entries.specs.declared.Status.the-variants.{Received, Late, NotReceived, Partial}
+use Rattle.entries.specs.declared.Entry.the-variants.{Record}
+use Rattle.report.specs.Reader.{Reading, Whole, Stopped, partOf, reportReading as judged, entriesIn, entriesOf}
 use Rattle.report.proofs.Whole.{Judged, judged-whole}
 use Rattle.host.specs.Reports.{entriesFound, statusOut}
 

@@ -6,11 +6,12 @@ use mathlib.Core.Bool.{Bool, true, false, _&&_}
 use native.Mathlib.Omega.{arith}
 use lib.Dec.{ltb}
 use Rattle.wire.specs.Bytes.{pick}
-use Rattle.receiver.specs.declared.Micros.{Micros}
+use Rattle.seen.specs.declared.Micros.{Micros}
 use Rattle.receiver.specs.declared.Receiver.{Receiver}
 use Rattle.receiver.specs.declared.Verdict.{Verdict}
 use Rattle.receiver.specs.declared.Verdict.the-variants.{Accepted, Stale, Refused}
-use Rattle.receiver.specs.Record.{small, delayRule, consistent}
+use Rattle.seen.specs.Numbers.{small}
+use Rattle.receiver.specs.Record.{delayRule, consistent}
 use Rattle.receiver.specs.Calls.{thresholdVerdict}
 use Rattle.host.specs.Calls.{staleNumber, verdictOut}
 

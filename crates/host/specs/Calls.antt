@@ -1,7 +1,7 @@
 -- The receiver's calls, as a host in C gives and gets them.
 use Prim.Native.Nat.{ℕ}
 use Rattle.receiver.specs.declared.Millis.{Millis}
-use Rattle.receiver.specs.declared.Micros.{Micros}
+use Rattle.seen.specs.declared.Micros.{Micros}
 use Rattle.receiver.specs.declared.Verdict.{Verdict}
 use Rattle.receiver.specs.declared.Verdict.the-variants.{Accepted, Stale, Refused}
 use Rattle.receiver.specs.declared.Heard.{Heard}

@@ -2,12 +2,13 @@
 use Prim.Native.Nat.{ℕ, _-_}
 use mathlib.Core.List.{List}
 use lib.ListN.{length}
-use Rattle.report.specs.Refusals.{entryRefusal, writtenRefusal}
+use Rattle.entries.specs.Refusals.{entryRefusal}
+use Rattle.report.specs.Refusals.{writtenRefusal}
 use Rattle.report.specs.Reader.{entriesOf}
-use Rattle.report.specs.declared.Status.{Status}
-use Rattle.report.specs.declared.Status.the-variants.{Received, Late, NotReceived, Partial}
-use Rattle.report.specs.declared.Entry.{Entry}
-use Rattle.report.specs.declared.Entry.the-variants.{Record, Ends, Broken}
+use Rattle.entries.specs.declared.Status.{Status}
+use Rattle.entries.specs.declared.Status.the-variants.{Received, Late, NotReceived, Partial}
+use Rattle.entries.specs.declared.Entry.{Entry}
+use Rattle.entries.specs.declared.Entry.the-variants.{Record, Ends, Broken}
 use Rattle.report.specs.declared.Written.{Written}
 use Rattle.report.specs.declared.Written.the-variants.{Done, Refused}
 use Rattle.host.specs.declared.EntriesOut.{EntriesOut}

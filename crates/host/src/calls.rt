@@ -6,11 +6,11 @@ ghost use Rattle.receiver.specs.Write.{writeAnswer, writeBytes};
 ghost use Rattle.host.specs.Calls.{millis, micros, verdictOut, heardOut};
 use receiver::Answer;
 use receiver::Heard;
-use receiver::Micros;
 use receiver::Millis;
 use receiver::Receiver;
 use receiver::Verdict;
 use receiver::Wrote;
+use seen::Micros;
 
 // The result of a stale frame, which is neither accepted nor refused.
 const STALE: u64 = 255;

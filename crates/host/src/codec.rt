@@ -1,7 +1,8 @@
 // The three frames: ACK_FREQUENCY and IMMEDIATE_ACK, read and written, and ACK, read.
 ghost use mathlib.Core.Path.{_≡_};
 ghost use Rattle.wire.specs.Numbers.{putAnswer, putBytes};
-ghost use Rattle.frames.specs.Frames.{readFrequency, readImmediate, frequency, immediate};
+ghost use Rattle.frames.specs.Frequency.{readFrequency, frequency};
+ghost use Rattle.frames.specs.Immediate.{readImmediate, immediate};
 ghost use Rattle.frames.specs.Ack.{readAck};
 ghost use Rattle.host.specs.Numbers.{putOut};
 ghost use Rattle.host.specs.Frames.{noFrequency, frequencyOut, immediateOut, noAck, ackOut};

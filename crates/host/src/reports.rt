@@ -2,7 +2,7 @@
 ghost use mathlib.Core.Path.{_≡_};
 ghost use lib.ListN.{length};
 ghost use Rattle.report.specs.Reader.{readReport};
-ghost use Rattle.report.specs.Entries.{entryAt};
+ghost use Rattle.entries.specs.Entries.{entryAt};
 ghost use Rattle.report.specs.Writer.{writeAnswer, writeBytes};
 ghost use Rattle.host.specs.Reports.{entriesFound, statusOut, noEntry, entryOut, writtenOut};
 use crate::EntriesOut;

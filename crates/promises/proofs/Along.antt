@@ -12,8 +12,8 @@ use lib.ListN.{length}
 use Rattle.wire.specs.Bytes.{pick}
 use Rattle.wire.proofs.Lengths.{split}
 use Rattle.receiver.specs.declared.Millis.{Millis}
-use Rattle.receiver.specs.declared.Micros.{Micros}
-use Rattle.receiver.specs.declared.Seen.{Seen}
+use Rattle.seen.specs.declared.Micros.{Micros}
+use Rattle.seen.specs.declared.Seen.{Seen}
 use Rattle.receiver.specs.declared.Pending.{Pending}
 use Rattle.receiver.specs.declared.Agreed.{Agreed}
 use Rattle.receiver.specs.declared.Receiver.{Receiver}
@@ -24,7 +24,7 @@ use Rattle.promises.specs.Sequence.{Call, packet, timer, immediate, thre
 use Rattle.promises.specs.Accepted.{Packet, Frame, packetOf, frameOf, joined, acceptedOf, packets, since, before, frames}
 use Rattle.promises.specs.Told.{largest, elicitingOf, arrivalOf, firstArrival, lastMark, largestSequence, valuesOf, inForce, seenOf, leftArrival, pendingOf, tell}
 use Rattle.promises.specs.Due.{known, ofPacket, due}
-use Rattle.promises.proofs.Step.{made, Meets, PacketMeets, step-kept, step-made, step-meets}
+use Rattle.promises.proofs.Acceptance.{made, Meets, PacketMeets, step-kept, step-made, step-meets}
 use Rattle.promises.proofs.Marks.{told-none, seen, seen-told}
 
 -- ---- N, U and the first arrival
@@ -62,7 +62,7 @@ pending-told cs n time marked =
 -- ---- the values in force
 
 -- a frame above the others is in force, and one that is not leaves theirs
-above-others : (a : Agreed) (f : Frame) (fs : List Frame) → largestSequence fs ≤ f .sequence → inForce a (f ∷ fs) ≡ valuesOf f
+pub above-others : (a : Agreed) (f : Frame) (fs : List Frame) → largestSequence fs ≤ f .sequence → inForce a (f ∷ fs) ≡ valuesOf f
 unfolding inForce
 above-others a f fs h = ap (λ (b : Bool). pick b (inForce a fs) (valuesOf f)) (le-ltb (f .sequence) (largestSequence fs) h)
 

@@ -1,4 +1,4 @@
--- What an accepted number adds to S: below the end nothing changes, and from the end up to the number each is passed over.
+-- What an accepted packet adds to S: below the end nothing changes, and from the end up to its number each is passed over.
 -- Assumes nothing.
 use Prim.Native.Nat.{ℕ, zero, suc, _+_, _-_, _≤_, _<_, max, min}
 use mathlib.Core.Path.{_≡_, refl, sym, ap, _∙_}
@@ -7,70 +7,67 @@ use mathlib.Core.List.{List, [], _∷_}
 use mathlib.Core.Logic.{⊎-elim}
 use native.Mathlib.Omega.{arith}
 use native.Mathlib.Nat.{add-zero, add-suc, le-refl}
-use lib.Dec.{ltb, eqb}
-use borrow.Author.Tests.{ltb-true, ltb-false, eqb-true}
-use Rattle.promises.specs.Passed.{oneIf, count, among, endOf, passes, passed, passedOver, PassedBetween}
+use lib.Dec.{ltb}
+use borrow.Author.Tests.{ltb-true, ltb-false}
+use Rattle.promises.specs.Accepted.{Packet}
+use Rattle.promises.specs.Told.{largest, among}
+use Rattle.promises.specs.Passed.{oneIf, count, passes, passed, passedOver, PassedBetween}
 use Rattle.promises.proofs.Truth.{either, both-left}
+use Rattle.promises.proofs.Packets.{none-above}
 use Rattle.promises.proofs.Passed.{missing-passed}
 
-among-under : (ns : List ℕ) (m : ℕ) → among m ns ≡ true → m < endOf ns
-unfolding among endOf
-among-under [] m h = absurd (false≢true h)
-among-under (n ∷ ns) m h =
-    ⊎-elim (λ q. omega (arith, eqb-true m n q)) (λ q. omega (arith, among-under ns m q)) (either (eqb m n) (among m ns) h)
-
-passed-under : (ns : List ℕ) (m : ℕ) → passed ns m ≡ true → m < endOf ns
-unfolding passed endOf
+passed-under : (ps : List Packet) (m : ℕ) → passed ps m ≡ true → m < largest ps
+unfolding passed largest
 passed-under [] m h = absurd (false≢true h)
-passed-under (n ∷ ns) m h =
+passed-under (p ∷ ps) m h =
     ⊎-elim
-    (λ q. omega (arith, passed-under ns m q))
-    (λ q. omega (arith, ltb-true m n (both-left (ltb m n) (not (among m ns)) q)))
-    (either (passed ns m) (passes n ns m) h)
+    (λ q. omega (arith, passed-under ps m q))
+    (λ q. omega (arith, ltb-true m (p .number) (both-left (ltb m (p .number)) (not (among ps m)) q)))
+    (either (passed ps m) (passes p ps m) h)
 
--- the test at m after n: as before below the end; between the end and n it holds
-old-same : (n : ℕ) (ns : List ℕ) (m : ℕ) → m < endOf ns → passed (n ∷ ns) m ≡ passed ns m
-unfolding passed
-old-same n ns m l = go (passed ns m) refl (among m ns) refl
-  where
-    go : (a : Bool) → passed ns m ≡ a → (b : Bool) → among m ns ≡ b → (a || (ltb m n && not b)) ≡ a
-    go true p b q = refl
-    go false p false q = absurd (false≢true (sym p ∙ missing-passed ns m l q))
-    go false p true q = and-false (ltb m n)
+module _ (p : Packet) (ps : List Packet) where
+  -- the test at m with p: as before below the end; between the end and p it holds
+  old-same : (m : ℕ) → m < largest ps → passed (p ∷ ps) m ≡ passed ps m
+  unfolding passed
+  old-same m l = go (passed ps m) refl (among ps m) refl
+    where
+      go : (a : Bool) → passed ps m ≡ a → (b : Bool) → among ps m ≡ b → (a || (ltb m (p .number) && not b)) ≡ a
+      go true e b q = refl
+      go false e false q = absurd (false≢true (sym e ∙ missing-passed ps m l q))
+      go false e true q = and-false (ltb m (p .number))
 
-new-same : (n : ℕ) (ns : List ℕ) (m : ℕ) → endOf ns ≤ m → passed (n ∷ ns) m ≡ ltb m n
-unfolding passed
-new-same n ns m l = go (passed ns m) refl (among m ns) refl
-  where
-    go : (a : Bool) → passed ns m ≡ a → (b : Bool) → among m ns ≡ b → (a || (ltb m n && not b)) ≡ ltb m n
-    go true p b q = let h : m < endOf ns = passed-under ns m p in absurd (omega arith)
-    go false p true q = let h : m < endOf ns = among-under ns m q in absurd (omega arith)
-    go false p false q = and-true (ltb m n)
+  new-same : (m : ℕ) → largest ps ≤ m → passed (p ∷ ps) m ≡ ltb m (p .number)
+  unfolding passed
+  new-same m l = go (passed ps m) refl
+    where
+      go : (a : Bool) → passed ps m ≡ a → (a || (ltb m (p .number) && not (among ps m))) ≡ ltb m (p .number)
+      go true e = let h : m < largest ps = passed-under ps m e in absurd (omega arith)
+      go false e = rw (none-above ps m l) (and-true (ltb m (p .number)))
 
-counted-old : (n : ℕ) (ns : List ℕ) (b : ℕ) → b ≤ endOf ns → count (passed (n ∷ ns)) b ≡ count (passed ns) b
-unfolding count
-counted-old n ns zero l = refl
-counted-old n ns (suc b) l = omega (arith, counted-old n ns b (omega arith), ap oneIf (old-same n ns b l))
+  counted-old : (b : ℕ) → b ≤ largest ps → count (passed (p ∷ ps)) b ≡ count (passed ps) b
+  unfolding count
+  counted-old zero l = refl
+  counted-old (suc b) l = omega (arith, counted-old b (omega arith), ap oneIf (old-same b l))
 
-counted-new : (n : ℕ) (ns : List ℕ) (d : ℕ) → count (passed (n ∷ ns)) (endOf ns + d) ≡ passedOver ns + min d (n - endOf ns)
-unfolding count passedOver
-counted-new n ns zero = rw add-zero (omega (arith, counted-old n ns (endOf ns) (le-refl (endOf ns))))
-counted-new n ns (suc d) = rw add-suc (go (ltb (endOf ns + d) n) refl (counted-new n ns d))
-  where
-    go :
-        (b : Bool) → ltb (endOf ns + d) n ≡ b
-        → count (passed (n ∷ ns)) (endOf ns + d) ≡ count (passed ns) (endOf ns) + min d (n - endOf ns)
-        → count (passed (n ∷ ns)) (endOf ns + d) + oneIf (passed (n ∷ ns) (endOf ns + d)) ≡ count (passed ns) (endOf ns) + min (suc d) (n - endOf ns)
-    go true t ih =
-        let l : endOf ns + d < n = ltb-true (endOf ns + d) n t in
-        omega (arith, ap oneIf (new-same n ns (endOf ns + d) (omega arith) ∙ t))
-    go false t ih =
-        let l : n ≤ endOf ns + d = ltb-false (endOf ns + d) n t in
-        omega (arith, ap oneIf (new-same n ns (endOf ns + d) (omega arith) ∙ t))
+  counted-new : (d : ℕ) → count (passed (p ∷ ps)) (largest ps + d) ≡ passedOver ps + min d (p .number - largest ps)
+  unfolding count passedOver
+  counted-new zero = rw add-zero (omega (arith, counted-old (largest ps) (le-refl (largest ps))))
+  counted-new (suc d) = rw add-suc (go (ltb (largest ps + d) (p .number)) refl (counted-new d))
+    where
+      go :
+          (b : Bool) → ltb (largest ps + d) (p .number) ≡ b
+          → count (passed (p ∷ ps)) (largest ps + d) ≡ count (passed ps) (largest ps) + min d (p .number - largest ps)
+          → count (passed (p ∷ ps)) (largest ps + d) + oneIf (passed (p ∷ ps) (largest ps + d)) ≡ count (passed ps) (largest ps) + min (suc d) (p .number - largest ps)
+      go true t ih =
+          let l : largest ps + d < p .number = ltb-true (largest ps + d) (p .number) t in
+          omega (arith, ap oneIf (new-same (largest ps + d) (omega arith) ∙ t))
+      go false t ih =
+          let l : p .number ≤ largest ps + d = ltb-false (largest ps + d) (p .number) t in
+          omega (arith, ap oneIf (new-same (largest ps + d) (omega arith) ∙ t))
 
--- what an accepted number adds to S
+-- what an accepted packet adds to S
 pub passed-between : PassedBetween
-unfolding passedOver endOf
-passed-between n ns =
-    let p : max (endOf ns) (n + 1) ≡ endOf ns + (n + 1 - endOf ns) = omega arith in
-    rw p (counted-new n ns (n + 1 - endOf ns) ∙ omega arith)
+unfolding passedOver largest
+passed-between p ps =
+    let e : max (largest ps) (p .number + 1) ≡ largest ps + (p .number + 1 - largest ps) = omega arith in
+    rw e (counted-new p ps (p .number + 1 - largest ps) ∙ omega arith)

@@ -1,28 +1,49 @@
--- Due: the cause is that of the record that the accepted calls tell, and its order line is the one in numbers.
+-- Due: the cause is that of the record that the accepted calls tell, its order line the one in numbers, and its congestion line the one that C reads.
 -- Assumes nothing.
-use Prim.Native.Nat.{ℕ}
-use mathlib.Core.Path.{_≡_, ap}
-use mathlib.Core.Bool.{Bool, true}
-use lib.Dec.{ltb}
+use Prim.Native.Nat.{ℕ, _+_}
+use mathlib.Core.Path.{_≡_, refl, ap, ap₂, _∙_}
+use mathlib.Core.Bool.{Bool, true, not, _&&_, _||_}
+use mathlib.Core.List.{List, [], _∷_}
+use native.Mathlib.Nat.{le-max-right}
+use native.Mathlib.Omega.{arith}
+use borrow.Author.Tests.{ne-eqb}
+use lib.Dec.{ltb, eqb}
 use Rattle.wire.specs.Bytes.{pick}
-use Rattle.receiver.specs.declared.Micros.{Micros}
+use Rattle.seen.specs.declared.Micros.{Micros}
 use Rattle.receiver.specs.declared.Agreed.{Agreed}
 use Rattle.receiver.specs.declared.Receiver.{Receiver}
 use Rattle.receiver.specs.Packet.{firstCause, congestion}
-use Rattle.promises.specs.Sequence.{packet, threshold, Calls, _then_}
-use Rattle.promises.specs.Accepted.{packets, since, before, frames}
-use Rattle.promises.specs.Told.{largest, elicitingOf, inForce, seenOf, pendingOf}
+use Rattle.promises.specs.Sequence.{packet, Calls, _then_, opening}
+use Rattle.promises.specs.Accepted.{Packet, acceptedOf, packets, since, before, frames}
+use Rattle.promises.specs.Told.{largest, elicitingOf, lastMark, startsCongestion, inForce, seenOf, pendingOf}
 use Rattle.promises.specs.Due.{known, ofPacket, inNumbers, Due}
+use Rattle.promises.specs.Bound.{StartsAsRead}
 use Rattle.promises.proofs.Order.{in-numbers}
-use Rattle.promises.proofs.Along.{cause-is}
+use Rattle.promises.proofs.Along.{agrees, cause-is}
+
+-- where there is no packet the last one had no mark
+no-packet : (marked : Bool) (ps : List Packet) → (marked && (eqb (largest ps) 0 || not (lastMark ps))) ≡ startsCongestion marked (lastMark ps)
+unfolding largest lastMark
+no-packet marked [] = refl
+no-packet marked (p ∷ ps) = rw (ne-eqb (largest (p ∷ ps)) 0 (λ z. omega (arith, le-max-right (largest ps) (p .number + 1))))
+
+congestion-told : (opened : Receiver) (cs : Calls) (marked : Bool) → congestion (known opened cs) marked ≡ startsCongestion marked (lastMark (packets cs))
+unfolding congestion seenOf
+congestion-told opened cs marked = no-packet marked (packets cs)
 
 numbers-are : (opened : Receiver) (cs : Calls) (n : ℕ) (time : Micros) (marked : Bool) → ofPacket opened cs n time marked ≡ inNumbers opened cs n time marked
-unfolding firstCause congestion seenOf pendingOf
+unfolding firstCause seenOf pendingOf
 numbers-are opened cs n time marked =
     let values : Agreed = inForce (opened .agreed) (frames cs) in
     let now : Calls = cs then packet n time true marked in
-    ap (λ (b : Bool). pick (ltb (values .threshold) (pendingOf now .count)) 2 (pick b 3 (pick (congestion (known opened cs) marked) 4 0)))
+    ap₂ (λ (b c : Bool). pick (ltb (values .threshold) (pendingOf now .count)) 2 (pick b 3 (pick c 4 0)))
     (in-numbers now (values .reordering) n (largest (elicitingOf (packets cs))) (largest (before cs)) (largest (elicitingOf (since now))))
+    (congestion-told opened cs marked)
 
 pub due-is : Due
 due-is = record { cause = cause-is; numbers = numbers-are }
+
+pub starts-as-read : StartsAsRead
+unfolding congestion
+starts-as-read t q maximum minimum cs marked =
+    ap (λ (r : Receiver). congestion r marked) (agrees t q maximum minimum cs) ∙ congestion-told (opening t q maximum minimum) (acceptedOf (opening t q maximum minimum) cs) marked

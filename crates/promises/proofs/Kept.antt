@@ -1,47 +1,41 @@
--- Kept: openings are consistent and each accepted call keeps every clause of the list, so refusal 1 never comes.
+-- Kept: each accepted call keeps every clause of what consistent means, so from an opening refusal 1 never comes.
 -- Assumes nothing.
-use Prim.Native.Nat.{ℕ, zero, suc, _+_, _-_, _*_, _/_, _^_, _≤_, _<_, min, max}
-use mathlib.Core.Path.{_≡_, refl, ap, _∙_}
+use Prim.Native.Nat.{ℕ, zero, suc, _+_, _-_, _/_, _^_, _≤_, _<_, min, max}
+use mathlib.Core.Path.{_≡_, refl, ap, subst, _∙_}
 use mathlib.Core.Bool.{Bool, true, false, _&&_}
 use native.Mathlib.Nat.{max-le, le-max-left, le-max-right, min-le-right, le-min}
 use native.Mathlib.Omega.{arith}
-use borrow.Author.Tests.{lt-ltb, le-ltb, ltb-true, leb-true, eqb-true, eqb-false}
+use borrow.Author.Tests.{lt-ltb, le-ltb}
 use lib.Dec.{leb, ltb, eqb}
+use lib.ListN.{replicate, length-replicate}
 use Rattle.wire.specs.Bytes.{pick}
 use Rattle.wire.specs.Numbers.{limit}
 use Rattle.wire.proofs.Lengths.{split}
 use Rattle.window.specs.Window.{valueOf, windowOf, isSet, withBit}
-use Rattle.window.proofs.Laws.{number-of, low-mark, mark-there, mark-elsewhere, moved-mark, zero-mark}
+use Rattle.window.proofs.Laws.{mark-there, mark-elsewhere, moved-mark}
 use Rattle.receiver.specs.declared.Millis.{Millis}
-use Rattle.receiver.specs.declared.Micros.{Micros}
-use Rattle.receiver.specs.declared.Seen.{Seen}
+use Rattle.seen.specs.declared.Micros.{Micros}
+use Rattle.seen.specs.declared.Seen.{Seen}
 use Rattle.receiver.specs.declared.Pending.{Pending}
 use Rattle.receiver.specs.declared.Receiver.{Receiver}
-use Rattle.receiver.specs.Record.{small, placeOf, limitsRule, consistent}
+use Rattle.seen.specs.Received.{placeOf, seenAfter, markAt, moveOn}
+use Rattle.receiver.specs.Record.{consistent}
 use Rattle.receiver.specs.Consistent.{Consistent}
-use Rattle.receiver.specs.Packet.{seenAfter, pendingAfter, causeAfter, firstCause, order, congestion, packetAfter, plainAfter, elicitingAfter, standing, judged, markAt, moveOn}
-use Rattle.receiver.specs.Calls.{opened, usual, openRefusal, openCall, timerDue, timerAfter, immediateAfter, agreedAfter, withCause}
-use Rattle.receiver.specs.Write.{written}
+use Rattle.receiver.specs.Packet.{pendingAfter, causeAfter, firstCause, order, congestion, packetAfter, plainAfter, elicitingAfter, standing}
+use Rattle.receiver.specs.Calls.{timerDue, timerAfter, immediateAfter, agreedAfter, withCause}
 use Rattle.receiver.proofs.Clauses.{consistent-exactly}
-use Rattle.receiver.proofs.Raised.{seen-end}
-use Rattle.promises.specs.Sequence.{Call, packet, timer, immediate, threshold, write, Calls, none, _then_, Reply, accepted, stale, refused, step, after, opening}
+use Rattle.seen.proofs.After.{seen-end}
+use Rattle.receiver.proofs.Emits.{write-keeps}
+use Rattle.promises.specs.Sequence.{Call, packet, timer, immediate, threshold, write, Calls, none, _then_, Reply, accepted, stale, refused, Outcome, step, after, opening}
 use Rattle.promises.specs.Kept.{Kept}
-use Rattle.promises.proofs.Truth.{both-left, both-right}
-use Rattle.promises.proofs.Step.{passed, not-zero, made, Meets, PacketMeets, FrameMeets, step-kept, step-made, step-meets, not-one}
-
--- two numbers are the same or not
-pub by-same : {P : Type 0} (a b : ℕ) → (a ≡ b → P) → ((a ≡ b → ⊥) → P) → P
-by-same {P} a b f g = go (eqb a b) refl
-  where
-    go : (t : Bool) → eqb a b ≡ t → P
-    go true e = f (eqb-true a b e)
-    go false e = g (eqb-false a b e)
+use Rattle.promises.proofs.Truth.{by-same}
+use Rattle.promises.proofs.Writing.{write-is-step}
+use Rattle.promises.proofs.Rows.{not-one}
+use Rattle.promises.proofs.Acceptance.{made, Meets, PacketMeets, FrameMeets, step-kept, step-made, step-meets}
+use Rattle.promises.proofs.Marks.{made-mark}
+use Rattle.promises.proofs.Openings.{opening-kept}
 
 -- ---- the window
-
--- of a window made of a number each place has the number's mark: of window's `windowOf` and `isSet`
-pub made-mark : (v q : ℕ) → q < 1024 → isSet (valueOf (windowOf v)) q ≡ isSet v q
-made-mark v q l = ap (λ (x : ℕ). isSet x q) (number-of v) ∙ low-mark v 1024 q l
 
 -- what "Consistent" says of the window
 record Marks (s : Seen) : Type 0 where
@@ -240,111 +234,40 @@ threshold-kept r s t d q k m =
       nothing = k .nothing;
     }
 
-write-kept : (r : Receiver) → Consistent r → Consistent (written r)
-unfolding written
-write-kept r k =
-    record {
-      largest = k .largest;
-      arrived = k .arrived;
-      first = k .first;
-      threshold = k .threshold;
-      reordering = k .reordering;
-      sequence = k .sequence;
-      count = omega arith;
-      maximum = k .maximum;
-      minimum = k .minimum;
-      delay = k .delay;
-      least = k .least;
-      cause = omega arith;
-      acknowledged = omega arith;
-      highest = k .highest;
-      unacknowledged = omega arith;
-      absent = (λ z. refl, λ z. refl);
-      own = k .own;
-      below = k .below;
-      nothing = λ z. refl;
-    }
-
-made-kept : (r : Receiver) (c : Call) → Consistent r → Meets r c → Consistent (made r c)
-made-kept r (packet n time eliciting marked) k m = packet-kept r n time eliciting marked k m
-made-kept r (timer time) k m = timer-kept r time k
-made-kept r immediate k m = immediate-kept r k m
-made-kept r (threshold s t d q) k m = threshold-kept r s t d q k m
-made-kept r (write time room) k m = write-kept r k
-
--- ---- openings
-
-opened-kept : (t q : ℕ) (m : Millis) (u : Micros) → t ≤ limit → q ≤ limit → m .0 < 16384 → u .0 ≤ m .0 * 1000 → Consistent (opened t q m u)
-unfolding opened
-opened-kept t q m u ft fq fm fu =
-    record {
-      largest = omega arith;
-      arrived = omega arith;
-      first = omega arith;
-      threshold = ft;
-      reordering = fq;
-      sequence = omega arith;
-      count = omega arith;
-      maximum = fm;
-      minimum = fu;
-      delay = omega arith;
-      least = fu;
-      cause = omega arith;
-      acknowledged = omega arith;
-      highest = omega arith;
-      unacknowledged = omega arith;
-      absent = (λ z. refl, λ z. refl);
-      own = λ h. absurd (omega arith);
-      below = λ q h. made-mark 0 q h ∙ zero-mark q;
-      nothing = λ z. refl;
-    }
-
-open-kept : (t q : ℕ) (m : Millis) (u : Micros) → openRefusal t q m u ≡ 0 → Consistent (opened t q m u)
-unfolding openRefusal limitsRule
-open-kept t q m u e =
-    let rule : Bool = ltb (m .0) 16384 && leb (u .0) (m .0 * 1000) in
-    let a = passed (small t && (small q && (small (m .0) && small (u .0)))) 0 (pick rule 0 4) 5 (not-zero 4) e in
-    let b = passed rule 0 0 4 (not-zero 3) (a .1) in
-    let f = both-right (small t) (small q && (small (m .0) && small (u .0))) (a .0) in
-    opened-kept t q m u
-    (leb-true t limit (both-left (small t) (small q && (small (m .0) && small (u .0))) (a .0)))
-    (leb-true q limit (both-left (small q) (small (m .0) && small (u .0)) f))
-    (ltb-true (m .0) 16384 (both-left (ltb (m .0) 16384) (leb (u .0) (m .0 * 1000)) (b .0)))
-    (leb-true (u .0) (m .0 * 1000) (both-right (ltb (m .0) 16384) (leb (u .0) (m .0 * 1000)) (b .0)))
-
-usual-kept : Consistent usual
-usual-kept = opened-kept 1 1 (record { 0 = 25 }) (record { 0 = 1000 }) (omega arith) (omega arith) (omega arith) (omega arith)
-
-opening-kept : (t q : ℕ) (m : Millis) (u : Micros) → Consistent (opening t q m u)
-unfolding openCall
-opening-kept t q m u = go (openRefusal t q m u) refl
-  where
-    go : (k : ℕ) → openRefusal t q m u ≡ k → Consistent (judged k usual (opened t q m u) .next)
-    go zero e = open-kept t q m u e
-    go (suc k) e = usual-kept
+-- receiver keeps it for every buffer; of the buffer only the length tells
+write-kept : (r : Receiver) (time : Micros) (room : ℕ) → consistent r ≡ true → consistent (step r (write time room) .next) ≡ true
+write-kept r time room k =
+    subst (λ (n : ℕ). consistent (step r (write time n) .next) ≡ true) (length-replicate room 0)
+    (ap (λ (x : Outcome). consistent (x .next)) (write-is-step r time (replicate room 0)) ∙ write-keeps r time (replicate room 0) k)
 
 -- ---- the theorem
 
-call-kept : (r : Receiver) (c : Call) → consistent r ≡ true → consistent (step r c .next) ≡ true
-call-kept r c k = go (step r c .reply) refl
-  where
-    unmoved : (step r c .reply ≡ accepted → ⊥) → consistent (step r c .next) ≡ true
-    unmoved f = ap consistent (step-kept r c f) ∙ k
+-- a call that keeps the clauses where it is accepted
+module _ (r : Receiver) (c : Call) (k : consistent r ≡ true) where
+  unmoved : (step r c .reply ≡ accepted → ⊥) → consistent (step r c .next) ≡ true
+  unmoved f = ap consistent (step-kept r c f) ∙ k
 
-    go : (a : Reply) → step r c .reply ≡ a → consistent (step r c .next) ≡ true
-    go accepted e = ap consistent (step-made r c e) ∙ consistent-exactly (made r c) .1 (made-kept r c (consistent-exactly r .0 k) (step-meets r c e))
-    go stale e = unmoved (λ f. let z : _≡_ {A = ℕ} 0 1 = cc in omega arith)
-    go (refused n) e = unmoved (λ f. let z : _≡_ {A = ℕ} 0 1 = cc in omega arith)
+  by-reply : (Consistent r → Meets r c → Consistent (made r c)) → (a : Reply) → step r c .reply ≡ a → consistent (step r c .next) ≡ true
+  by-reply f accepted e = ap consistent (step-made r c e) ∙ consistent-exactly (made r c) .1 (f (consistent-exactly r .0 k) (step-meets r c e))
+  by-reply f stale e = unmoved (λ g. let z : _≡_ {A = ℕ} 0 1 = cc in omega arith)
+  by-reply f (refused n) e = unmoved (λ g. let z : _≡_ {A = ℕ} 0 1 = cc in omega arith)
+
+call-kept : (r : Receiver) (c : Call) → consistent r ≡ true → consistent (step r c .next) ≡ true
+call-kept r (packet n time eliciting marked) k = by-reply r (packet n time eliciting marked) k (packet-kept r n time eliciting marked) _ refl
+call-kept r (timer time) k = by-reply r (timer time) k (λ c m. timer-kept r time c) _ refl
+call-kept r immediate k = by-reply r immediate k (immediate-kept r) _ refl
+call-kept r (threshold s t d q) k = by-reply r (threshold s t d q) k (threshold-kept r s t d q) _ refl
+call-kept r (write time room) k = write-kept r time room k
 
 pub along : (t q : ℕ) (m : Millis) (u : Micros) (cs : Calls) → consistent (after (opening t q m u) cs) ≡ true
 unfolding after
-along t q m u none = consistent-exactly (opening t q m u) .1 (opening-kept t q m u)
+along t q m u none = opening-kept t q m u
 along t q m u (cs then c) = call-kept (after (opening t q m u) cs) c (along t q m u cs)
 
 pub kept : Kept
 kept =
     record {
-      opened = λ t q m u. consistent-exactly (opening t q m u) .1 (opening-kept t q m u);
+      opened = opening-kept;
       call = call-kept;
       along = along;
       never = λ t q m u cs c e. not-one (after (opening t q m u) cs) c (along t q m u cs) e;

@@ -4,7 +4,7 @@ use Prim.Native.Nat.{ℕ, zero, suc, _+_, _-_, _/_, _^_, _≤_, _<_}
 use mathlib.Core.Path.{_≡_, refl, sym, ap, ap₂, _∙_}
 use mathlib.Core.Bool.{Bool, true, false, _&&_}
 use mathlib.Core.List.{List, [], _∷_}
-use native.Mathlib.Nat.{le-max-left, le-max-right, max-eq-left, max-eq-right, lt-of-le-of-lt, lt-of-lt-of-le}
+use native.Mathlib.Nat.{max-eq-left, max-eq-right, lt-of-le-of-lt, lt-of-lt-of-le}
 use native.Mathlib.Omega.{arith}
 use borrow.Author.Tests.{le-leb, lt-leb, lt-ltb, le-ltb, eq-eqb, ne-eqb}
 use lib.Dec.{leb}
@@ -12,15 +12,19 @@ use lib.Pow.{pow-mono, pow-pos, shr-le}
 use Rattle.wire.specs.Bytes.{pick}
 use Rattle.wire.proofs.Lengths.{split}
 use Rattle.window.specs.Window.{valueOf, windowOf, isSet, withBit}
-use Rattle.window.proofs.Laws.{number-kept, mark-there, mark-elsewhere, mark-below, moved-mark, high-mark, same-marks, zero-mark}
-use Rattle.receiver.specs.declared.Seen.{Seen}
-use Rattle.receiver.specs.Record.{floor, placeOf}
-use Rattle.receiver.specs.Packet.{seenAfter}
+use Rattle.window.proofs.Laws.{number-of, number-kept, low-mark, mark-there, mark-elsewhere, mark-below, moved-mark, high-mark, same-marks, zero-mark}
+use Rattle.seen.specs.declared.Seen.{Seen}
+use Rattle.seen.specs.Received.{floorOf, placeOf, seenAfter}
 use Rattle.promises.specs.Accepted.{Packet}
 use Rattle.promises.specs.Told.{largest, among, arrivalOf, isMarked, marks}
-use Rattle.promises.proofs.Kept.{by-same}
+use Rattle.promises.proofs.Truth.{by-same}
+use Rattle.promises.proofs.Packets.{none-above}
 
 -- ---- the number with given marks
+
+-- of a window made of a number each place has the number's mark
+pub made-mark : (v q : ℕ) → q < 1024 → isSet (valueOf (windowOf v)) q ≡ isSet v q
+made-mark v q l = ap (λ (x : ℕ). isSet x q) (number-of v) ∙ low-mark v 1024 q l
 
 pub marks-below : (test : ℕ → Bool) (k : ℕ) → marks test k < 2 ^ k
 unfolding marks
@@ -45,16 +49,6 @@ marks-at test (suc k) q l = by-same q k (λ e. here e (test k) refl) (λ e. ther
     there e h false = h
 
 -- ---- the marks of packets
-
--- a number from the largest's end on is not among them
-pub none-above : (ps : List Packet) (m : ℕ) → largest ps ≤ m → among ps m ≡ false
-unfolding largest among
-none-above [] m h = refl
-none-above (p ∷ ps) m h =
-    let u : largest ps ≤ m = omega (arith, le-max-left (largest ps) (p .number + 1)) in
-    let v : p .number < m + 1 = omega (arith, le-max-right (largest ps) (p .number + 1)) in
-    let w : p .number ≡ m → ⊥ = λ e. omega (arith, le-max-right (largest ps) (p .number + 1)) in
-    rw (ne-eqb (p .number) m w) (none-above ps m u)
 
 at-number : (ps : List Packet) (q m : ℕ) → q + largest ps ≡ m + 1024 → isMarked ps q ≡ among ps m
 unfolding isMarked
@@ -160,7 +154,7 @@ abbrev pub seen : List Packet → Seen
 seen ps = record { window = windowOf (marksOf ps); end = largest ps; arrived = arrivalOf ps }
 
 -- an accepted packet leaves what one packet more tells
-pub seen-told : (p : Packet) (ps : List Packet) → floor (largest ps) ≤ p .number → seenAfter (seen ps) (p .number) (p .time) ≡ seen (p ∷ ps)
+pub seen-told : (p : Packet) (ps : List Packet) → floorOf (largest ps) ≤ p .number → seenAfter (seen ps) (p .number) (p .time) ≡ seen (p ∷ ps)
 unfolding seenAfter arrivalOf
 seen-told p ps f =
     split (largest ps) (p .number)

@@ -1,4 +1,4 @@
--- Laws of `count`, and of the numbers passed over: what a newly accepted number adds to them, by comparing tests number by number.
+-- Laws of `count`, and of the numbers passed over: what a newly accepted packet adds to them, by comparing tests number by number.
 -- Assumes nothing.
 use Prim.Native.Nat.{ℕ, zero, suc, _+_, _≤_, _<_, zero-le}
 use mathlib.Core.Path.{_≡_, refl, ap}
@@ -11,8 +11,11 @@ use lib.Arith.{le-zero}
 use lib.Dec.{ltb, eqb}
 use borrow.Author.Tests.{lt-ltb, eqb-false, eq-eqb}
 use Rattle.wire.proofs.Lengths.{split}
-use Rattle.promises.specs.Passed.{oneIf, count, among, endOf, passes, passed, passedOver}
+use Rattle.promises.specs.Accepted.{Packet}
+use Rattle.promises.specs.Told.{largest, among}
+use Rattle.promises.specs.Passed.{oneIf, count, passes, passed, passedOver}
 use Rattle.promises.proofs.Truth.{either-left, either-right, both, both-left, both-right, neither-left, neither-right, not-both}
+use Rattle.promises.proofs.Packets.{largest-grows}
 
 one-mono : (a b : Bool) → (a ≡ true → b ≡ true) → oneIf a ≤ oneIf b
 one-mono false b h = zero-le
@@ -66,80 +69,78 @@ count-new : (f g : ℕ → Bool) → Within f g → (m b c : ℕ) → b ≤ c �
 count-new f g h m b c l k p q = le-trans (count-new-same f g h m b k p q) (count-longer g b c l)
 
 -- what is passed over stays so
-passed-grows : (n : ℕ) (ns : List ℕ) → Within (passed ns) (passed (n ∷ ns))
+passed-grows : (p : Packet) (ps : List Packet) → Within (passed ps) (passed (p ∷ ps))
 unfolding passed
-passed-grows n ns m e = either-left (passed ns m) (passes n ns m) e
+passed-grows p ps m e = either-left (passed ps m) (passes p ps m) e
 
 -- a larger number passes over what was not received
-pub passed-by : (n : ℕ) (ns : List ℕ) (m : ℕ) → m < n → among m ns ≡ false → passes n ns m ≡ true
-passed-by n ns m l e = both (ltb m n) (not (among m ns)) (lt-ltb m n l) (ap not e)
+passed-by : (p : Packet) (ps : List Packet) (m : ℕ) → m < p .number → among ps m ≡ false → passes p ps m ≡ true
+passed-by p ps m l e = both (ltb m (p .number)) (not (among ps m)) (lt-ltb m (p .number) l) (ap not e)
 
 -- a number below the largest that was not received is passed over
-pub missing-passed : (ns : List ℕ) (m : ℕ) → m < endOf ns → among m ns ≡ false → passed ns m ≡ true
-unfolding passed among endOf
+pub missing-passed : (ps : List Packet) (m : ℕ) → m < largest ps → among ps m ≡ false → passed ps m ≡ true
+unfolding passed among largest
 missing-passed [] m l e = absurd (not-suc-le-zero l)
-missing-passed (n ∷ ns) m l e =
-    let absent : among m ns ≡ false = neither-right (eqb m n) (among m ns) e in
-    let other : m ≡ n → ⊥ = eqb-false m n (neither-left (eqb m n) (among m ns) e) in
-    split n m
-    (λ h. either-left (passed ns m) (passes n ns m) (missing-passed ns m (omega (arith, other)) absent))
-    (λ h. either-right (passed ns m) (passes n ns m) (passed-by n ns m h absent))
+missing-passed (p ∷ ps) m l e =
+    let absent : among ps m ≡ false = neither-right (eqb (p .number) m) (among ps m) e in
+    let other : p .number ≡ m → ⊥ = eqb-false (p .number) m (neither-left (eqb (p .number) m) (among ps m) e) in
+    split (p .number) m
+    (λ h. either-left (passed ps m) (passes p ps m) (missing-passed ps m (omega (arith, other)) absent))
+    (λ h. either-right (passed ps m) (passes p ps m) (passed-by p ps m h absent))
 
 -- the ones passed over that came late
-unfoldable pub cameLate : List ℕ → ℕ → Bool
-cameLate ns m = passed ns m && among m ns
+unfoldable pub cameLate : List Packet → ℕ → Bool
+cameLate ps m = passed ps m && among ps m
 
-unfoldable pub late : List ℕ → ℕ
-late ns = count (cameLate ns) (endOf ns)
+unfoldable pub late : List Packet → ℕ
+late ps = count (cameLate ps) (largest ps)
 
-late-grows : (n : ℕ) (ns : List ℕ) → Within (cameLate ns) (cameLate (n ∷ ns))
+late-grows : (p : Packet) (ps : List Packet) → Within (cameLate ps) (cameLate (p ∷ ps))
 unfolding cameLate among
-late-grows n ns m e =
-    both (passed (n ∷ ns) m) (among m (n ∷ ns)) (passed-grows n ns m (both-left (passed ns m) (among m ns) e)) (either-right (eqb m n) (among m ns) (both-right (passed ns m) (among m ns) e))
+late-grows p ps m e =
+    both (passed (p ∷ ps) m) (among (p ∷ ps) m) (passed-grows p ps m (both-left (passed ps m) (among ps m) e))
+    (either-right (eqb (p .number) m) (among ps m) (both-right (passed ps m) (among ps m) e))
 
-end-grows : (n : ℕ) (ns : List ℕ) → endOf ns ≤ endOf (n ∷ ns)
-unfolding endOf
-end-grows n ns = omega arith
-
-pub late-mono : (n : ℕ) (ns : List ℕ) → late ns ≤ late (n ∷ ns)
+pub late-mono : (p : Packet) (ps : List Packet) → late ps ≤ late (p ∷ ps)
 unfolding late
-late-mono n ns = count-mono (cameLate ns) (cameLate (n ∷ ns)) (late-grows n ns) (end-grows n ns)
+late-mono p ps = count-mono (cameLate ps) (cameLate (p ∷ ps)) (late-grows p ps) (largest-grows p ps)
 
-pub late-new : (n : ℕ) (ns : List ℕ) → n < endOf ns → among n ns ≡ false → late ns + 1 ≤ late (n ∷ ns)
+pub late-new : (p : Packet) (ps : List Packet) → p .number < largest ps → among ps (p .number) ≡ false → late ps + 1 ≤ late (p ∷ ps)
 unfolding late cameLate among
-late-new n ns l e =
+late-new p ps l e =
+    let n : ℕ = p .number in
     count-new
-    (cameLate ns)
-    (cameLate (n ∷ ns))
-    (late-grows n ns)
+    (cameLate ps)
+    (cameLate (p ∷ ps))
+    (late-grows p ps)
     n
-    (endOf ns)
-    (endOf (n ∷ ns))
-    (end-grows n ns)
+    (largest ps)
+    (largest (p ∷ ps))
+    (largest-grows p ps)
     l
-    (not-both (passed ns n) (among n ns) e)
-    (both (passed (n ∷ ns) n) (among n (n ∷ ns)) (passed-grows n ns n (missing-passed ns n l e)) (either-left (eqb n n) (among n ns) (eq-eqb n n refl)))
+    (not-both (passed ps n) (among ps n) e)
+    (both (passed (p ∷ ps) n) (among (p ∷ ps) n) (passed-grows p ps n (missing-passed ps n l e)) (either-left (eqb n n) (among ps n) (eq-eqb n n refl)))
 
-pub late-le : (ns : List ℕ) → late ns ≤ passedOver ns
+pub late-le : (ps : List Packet) → late ps ≤ passedOver ps
 unfolding late cameLate passedOver
-late-le ns = count-mono (cameLate ns) (passed ns) (λ m e. both-left (passed ns m) (among m ns) e) (le-refl (endOf ns))
+late-le ps = count-mono (cameLate ps) (passed ps) (λ m e. both-left (passed ps m) (among ps m) e) (le-refl (largest ps))
 
-pub passedOver-mono : (n : ℕ) (ns : List ℕ) → passedOver ns ≤ passedOver (n ∷ ns)
+pub passedOver-mono : (p : Packet) (ps : List Packet) → passedOver ps ≤ passedOver (p ∷ ps)
 unfolding passedOver
-passedOver-mono n ns = count-mono (passed ns) (passed (n ∷ ns)) (passed-grows n ns) (end-grows n ns)
+passedOver-mono p ps = count-mono (passed ps) (passed (p ∷ ps)) (passed-grows p ps) (largest-grows p ps)
 
 -- passed over below b
-unfoldable pub below : List ℕ → ℕ → ℕ
-below ns b = count (passed ns) b
+unfoldable pub below : List Packet → ℕ → ℕ
+below ps b = count (passed ps) b
 
-pub below-le : (ns : List ℕ) (b : ℕ) → b ≤ endOf ns → below ns b ≤ passedOver ns
+pub below-le : (ps : List Packet) (b : ℕ) → b ≤ largest ps → below ps b ≤ passedOver ps
 unfolding below passedOver
-below-le ns b l = count-mono (passed ns) (passed ns) (λ m e. e) l
+below-le ps b l = count-mono (passed ps) (passed ps) (λ m e. e) l
 
-pub below-mono : (n : ℕ) (ns : List ℕ) {b c : ℕ} → b ≤ c → below ns b ≤ below (n ∷ ns) c
+pub below-mono : (p : Packet) (ps : List Packet) {b c : ℕ} → b ≤ c → below ps b ≤ below (p ∷ ps) c
 unfolding below
-below-mono n ns l = count-mono (passed ns) (passed (n ∷ ns)) (passed-grows n ns) l
+below-mono p ps l = count-mono (passed ps) (passed (p ∷ ps)) (passed-grows p ps) l
 
-pub below-new : (n : ℕ) (ns : List ℕ) (b c m : ℕ) → b ≤ m → m < c → m < endOf (n ∷ ns) → among m (n ∷ ns) ≡ false → below ns b + 1 ≤ below (n ∷ ns) c
+pub below-new : (p : Packet) (ps : List Packet) (b c m : ℕ) → b ≤ m → m < c → m < largest (p ∷ ps) → among (p ∷ ps) m ≡ false → below ps b + 1 ≤ below (p ∷ ps) c
 unfolding below
-below-new n ns b c m l k i e = count-above (passed ns) (passed (n ∷ ns)) (passed-grows n ns) b c m l k (missing-passed (n ∷ ns) m i e)
+below-new p ps b c m l k i e = count-above (passed ps) (passed (p ∷ ps)) (passed-grows p ps) b c m l k (missing-passed (p ∷ ps) m i e)

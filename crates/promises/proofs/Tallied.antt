@@ -4,14 +4,16 @@ use Prim.Native.Nat.{ℕ, zero, suc, _+_, _-_, _*_, _/_, _≤_, _<_, min}
 use mathlib.Core.Path.{_≡_, refl}
 use mathlib.Core.List.{List, _∷_}
 use native.Mathlib.Omega.{arith}
-use native.Mathlib.Nat.{le-trans, le-refl, mul-le-mul-left, mul-le-mul-right, suc-mul, mul-add, mul-one, suc-ne-zero, le-div-iff-mul-le}
+use native.Mathlib.Nat.{le-trans, le-refl, mul-le-mul-left, mul-le-mul-right, suc-mul, mul-suc, mul-add, mul-one, suc-ne-zero, le-div-iff-mul-le}
 use Rattle.receiver.specs.Packet.{standing}
-use Rattle.promises.specs.Passed.{passedOver, endOf}
+use Rattle.promises.specs.Accepted.{Packet}
+use Rattle.promises.specs.Told.{largest, elicitingOf}
+use Rattle.promises.specs.Passed.{passedOver}
+use Rattle.promises.proofs.Packets.{largest-grows, highest-grows, highest-below}
 use Rattle.promises.proofs.Passed.{late, below, late-mono, late-le, below-le, below-mono, passedOver-mono}
 
--- Of the calls: the numbers accepted, E, F, the writes, the smallest T, and C + I + D.
--- Of the record: T, R, the ends of L, H and A, N and the cause.
-pub record Tallied (ns : List ℕ) (e f w t x threshold reordering end highest acknowledged n c : ℕ) : Type 0 where
+-- The packets, E, F, W, the smallest T, C + I + D; T and R in force, A, N and the cause.
+pub record Tallied (ps : List Packet) (e f w t x threshold reordering acknowledged n c : ℕ) : Type 0 where
   -- how often cause 2 was set, and cause 3 before the last accepted threshold frame and since
   pub byCount : ℕ
   pub orderBefore : ℕ
@@ -21,20 +23,20 @@ pub record Tallied (ns : List ℕ) (e f w t x threshold reordering end highest a
   pub counts : byCount * (t + 1) ≤ e
   pub counting : c ≡ 0 → byCount * (t + 1) + n ≤ e
   -- each cause 3 took a number passed over: with R up to 1 as it was passed over or came late, from 2 up once it lay R below the numbers acknowledged
-  pub before : orderBefore ≤ 2 * passedOver ns * f
-  pub near : reordering ≤ 1 → orderSince ≤ late ns + below ns highest
-  pub far : 2 ≤ reordering → orderSince ≤ below ns (end - min reordering 1023)
-  pub idle : 2 ≤ reordering → c ≡ 0 → orderSince ≤ below ns (acknowledged - min reordering 1023)
+  pub before : orderBefore ≤ 2 * passedOver ps * f
+  pub near : reordering ≤ 1 → orderSince ≤ late ps + below ps (largest (elicitingOf ps))
+  pub far : 2 ≤ reordering → orderSince ≤ below ps (largest ps - min reordering 1023)
+  pub idle : 2 ≤ reordering → c ≡ 0 → orderSince ≤ below ps (acknowledged - min reordering 1023)
   -- each write took a cause, and one that stands is not yet spent
   pub total : w ≤ byCount + orderBefore + orderSince + x
   pub due : (c ≡ 0 → ⊥) → w + 1 ≤ byCount + orderBefore + orderSince + x
 
-past : (q : ℕ) (ns : List ℕ) (f : ℕ) {b : ℕ} → b ≤ 2 * passedOver ns * f → b ≤ 2 * passedOver (q ∷ ns) * f
-past q ns f h = le-trans h (mul-le-mul-right f (mul-le-mul-left 2 (passedOver-mono q ns)))
+past : (q : Packet) (ps : List Packet) (f : ℕ) {b : ℕ} → b ≤ 2 * passedOver ps * f → b ≤ 2 * passedOver (q ∷ ps) * f
+past q ps f h = le-trans h (mul-le-mul-right f (mul-le-mul-left 2 (passedOver-mono q ps)))
 
-module _ {ns : List ℕ} {e f w t x threshold reordering end highest acknowledged n : ℕ} where
+module _ {ps : List Packet} {e f w t x threshold reordering acknowledged n : ℕ} where
   -- nothing happens but that the sum may grow
-  pub more : {c : ℕ} (x′ : ℕ) → x ≤ x′ → Tallied ns e f w t x threshold reordering end highest acknowledged n c → Tallied ns e f w t x′ threshold reordering end highest acknowledged n c
+  pub more : {c : ℕ} (x′ : ℕ) → x ≤ x′ → Tallied ps e f w t x threshold reordering acknowledged n c → Tallied ps e f w t x′ threshold reordering acknowledged n c
   more x′ l v =
       record {
         byCount = v .byCount;
@@ -52,7 +54,7 @@ module _ {ns : List ℕ} {e f w t x threshold reordering end highest acknowledge
       }
 
   -- causes 1, 4 and 5: the sum pays
-  pub paid : (d x′ : ℕ) → x + 1 ≤ x′ → Tallied ns e f w t x threshold reordering end highest acknowledged n 0 → Tallied ns e f w t x′ threshold reordering end highest acknowledged n (suc d)
+  pub paid : (d x′ : ℕ) → x + 1 ≤ x′ → Tallied ps e f w t x threshold reordering acknowledged n 0 → Tallied ps e f w t x′ threshold reordering acknowledged n (suc d)
   paid d x′ l v =
       record {
         byCount = v .byCount;
@@ -70,7 +72,7 @@ module _ {ns : List ℕ} {e f w t x threshold reordering end highest acknowledge
       }
 
   -- cause 2: T + 1 packets pay
-  pub counted-step : threshold < n → Tallied ns e f w t x threshold reordering end highest acknowledged n 0 → Tallied ns e f w t x threshold reordering end highest acknowledged n 2
+  pub counted-step : threshold < n → Tallied ps e f w t x threshold reordering acknowledged n 0 → Tallied ps e f w t x threshold reordering acknowledged n 2
   counted-step l v =
       record {
         byCount = suc (v .byCount);
@@ -88,13 +90,13 @@ module _ {ns : List ℕ} {e f w t x threshold reordering end highest acknowledge
       }
 
   -- the cause d is set if none stands, as by a timer call or IMMEDIATE_ACK; d may be 0, no cause
-  pub set-step : (c d x′ : ℕ) → x + 1 ≤ x′ → Tallied ns e f w t x threshold reordering end highest acknowledged n c → Tallied ns e f w t x′ threshold reordering end highest acknowledged n (standing c d)
+  pub set-step : (c d x′ : ℕ) → x + 1 ≤ x′ → Tallied ps e f w t x threshold reordering acknowledged n c → Tallied ps e f w t x′ threshold reordering acknowledged n (standing c d)
   set-step (suc c) d x′ l v = more x′ (omega arith) v
   set-step zero zero x′ l v = more x′ (omega arith) v
   set-step zero (suc d) x′ l v = paid d x′ l v
 
   -- a write while an acknowledgment is due
-  pub write-step : {c : ℕ} → (c ≡ 0 → ⊥) → Tallied ns e f w t x threshold reordering end highest acknowledged n c → Tallied ns e f (w + 1) t x threshold reordering end highest end 0 0
+  pub write-step : {c : ℕ} → (c ≡ 0 → ⊥) → Tallied ps e f w t x threshold reordering acknowledged n c → Tallied ps e f (w + 1) t x threshold reordering (largest ps) 0 0
   write-step d v =
       record {
         byCount = v .byCount;
@@ -112,22 +114,20 @@ module _ {ns : List ℕ} {e f w t x threshold reordering end highest acknowledge
       }
 
   -- what the epoch's cause 3 comes to: at most twice the numbers passed over
-  pub epoch : {c : ℕ} (v : Tallied ns e f w t x threshold reordering end highest acknowledged n c) → end ≡ endOf ns → highest ≤ end → v .orderSince ≤ 2 * passedOver ns
-  epoch v q h = go reordering (v .near) (v .far)
+  pub epoch : {c : ℕ} (v : Tallied ps e f w t x threshold reordering acknowledged n c) → v .orderSince ≤ 2 * passedOver ps
+  epoch v = go reordering (v .near) (v .far)
     where
-      go : (reordering : ℕ) → (reordering ≤ 1 → v .orderSince ≤ late ns + below ns highest) → (2 ≤ reordering → v .orderSince ≤ below ns (end - min reordering 1023)) → v .orderSince ≤ 2 * passedOver ns
-      go zero p o = omega (arith, p (omega arith), late-le ns, below-le ns highest (omega arith))
-      go (suc zero) p o = omega (arith, p (omega arith), late-le ns, below-le ns highest (omega arith))
-      go (suc (suc reordering)) p o = omega (arith, o (omega arith), below-le ns (end - min (suc (suc reordering)) 1023) (omega arith))
+      go : (reordering : ℕ) → (reordering ≤ 1 → v .orderSince ≤ late ps + below ps (largest (elicitingOf ps))) → (2 ≤ reordering → v .orderSince ≤ below ps (largest ps - min reordering 1023)) → v .orderSince ≤ 2 * passedOver ps
+      go zero p o = omega (arith, p (omega arith), late-le ps, below-le ps (largest (elicitingOf ps)) (highest-below ps))
+      go (suc zero) p o = omega (arith, p (omega arith), late-le ps, below-le ps (largest (elicitingOf ps)) (highest-below ps))
+      go (suc (suc reordering)) p o = omega (arith, o (omega arith), below-le ps (largest ps - min (suc (suc reordering)) 1023) (omega arith))
 
   -- an accepted threshold frame: a new epoch
   pub change-step :
       {c : ℕ} (threshold′ reordering′ : ℕ)
-      → end ≡ endOf ns
-      → highest ≤ end
-      → Tallied ns e f w t x threshold reordering end highest acknowledged n c
-      → Tallied ns e (f + 1) w (min t threshold′) x threshold′ reordering′ end highest acknowledged n c
-  change-step threshold′ reordering′ q h v =
+      → Tallied ps e f w t x threshold reordering acknowledged n c
+      → Tallied ps e (suc f) w (min t threshold′) x threshold′ reordering′ acknowledged n c
+  change-step threshold′ reordering′ v =
       record {
         byCount = v .byCount;
         orderBefore = v .orderBefore + v .orderSince;
@@ -135,7 +135,7 @@ module _ {ns : List ℕ} {e f w t x threshold reordering end highest acknowledge
         least = omega arith;
         counts = omega (arith, v .counts, fewer);
         counting = λ z. omega (arith, v .counting z, fewer);
-        before = rw (mul-add, mul-one) (omega (arith, v .before, epoch v q h));
+        before = rw mul-suc (omega (arith, v .before, epoch v));
         near = λ z. omega arith;
         far = λ z. omega arith;
         idle = λ z o. omega arith;
@@ -147,8 +147,8 @@ module _ {ns : List ℕ} {e f w t x threshold reordering end highest acknowledge
       fewer = mul-le-mul-left (v .byCount) (omega arith)
 
   -- a packet: what was passed over can only grow
-  module _ (q e′ x′ end′ highest′ n′ : ℕ) (he : e ≤ e′) (hn : e + n′ ≤ e′ + n) (hx : x ≤ x′) (hl : end ≤ end′) (hh : highest ≤ highest′) where
-    pub grown : {c : ℕ} → Tallied ns e f w t x threshold reordering end highest acknowledged n c → Tallied (q ∷ ns) e′ f w t x′ threshold reordering end′ highest′ acknowledged n′ c
+  module _ (q : Packet) (e′ x′ n′ : ℕ) (he : e ≤ e′) (hn : e + n′ ≤ e′ + n) (hx : x ≤ x′) where
+    pub grown : {c : ℕ} → Tallied ps e f w t x threshold reordering acknowledged n c → Tallied (q ∷ ps) e′ f w t x′ threshold reordering acknowledged n′ c
     grown v =
         record {
           byCount = v .byCount;
@@ -157,20 +157,20 @@ module _ {ns : List ℕ} {e f w t x threshold reordering end highest acknowledge
           least = v .least;
           counts = omega (arith, v .counts);
           counting = λ z. omega (arith, v .counting z);
-          before = past q ns f (v .before);
-          near = λ h. omega (arith, v .near h, late-mono q ns, below-mono q ns hh);
-          far = λ h. le-trans (v .far h) (below-mono q ns (omega arith));
-          idle = λ h z. le-trans (v .idle h z) (below-mono q ns (le-refl (acknowledged - min reordering 1023)));
+          before = past q ps f (v .before);
+          near = λ h. omega (arith, v .near h, late-mono q ps, below-mono q ps (highest-grows q ps));
+          far = λ h. le-trans (v .far h) (below-mono q ps (omega (arith, largest-grows q ps)));
+          idle = λ h z. le-trans (v .idle h z) (below-mono q ps (le-refl (acknowledged - min reordering 1023)));
           total = omega (arith, v .total);
           due = λ z. omega (arith, v .due z);
         }
 
     -- cause 3: a number passed over pays
     pub ordered :
-        (reordering ≤ 1 → late ns + below ns highest + 1 ≤ late (q ∷ ns) + below (q ∷ ns) highest′)
-        → (2 ≤ reordering → below ns (acknowledged - min reordering 1023) + 1 ≤ below (q ∷ ns) (end′ - min reordering 1023))
-        → Tallied ns e f w t x threshold reordering end highest acknowledged n 0
-        → Tallied (q ∷ ns) e′ f w t x′ threshold reordering end′ highest′ acknowledged n′ 3
+        (reordering ≤ 1 → late ps + below ps (largest (elicitingOf ps)) + 1 ≤ late (q ∷ ps) + below (q ∷ ps) (largest (elicitingOf (q ∷ ps))))
+        → (2 ≤ reordering → below ps (acknowledged - min reordering 1023) + 1 ≤ below (q ∷ ps) (largest (q ∷ ps) - min reordering 1023))
+        → Tallied ps e f w t x threshold reordering acknowledged n 0
+        → Tallied (q ∷ ps) e′ f w t x′ threshold reordering acknowledged n′ 3
     ordered p o v =
         record {
           byCount = v .byCount;
@@ -179,7 +179,7 @@ module _ {ns : List ℕ} {e f w t x threshold reordering end highest acknowledge
           least = v .least;
           counts = omega (arith, v .counts);
           counting = λ z. absurd (suc-ne-zero 2 z);
-          before = past q ns f (v .before);
+          before = past q ps f (v .before);
           near = λ h. omega (arith, v .near h, p h);
           far = λ h. omega (arith, v .idle h refl, o h);
           idle = λ h z. absurd (suc-ne-zero 2 z);
@@ -188,7 +188,7 @@ module _ {ns : List ℕ} {e f w t x threshold reordering end highest acknowledge
         }
 
   -- the bound
-  pub bounded : {c : ℕ} → end ≡ endOf ns → highest ≤ end → Tallied ns e f w t x threshold reordering end highest acknowledged n c → w ≤ e / (t + 1) + 2 * passedOver ns * (f + 1) + x
-  bounded q h v =
+  pub bounded : {c : ℕ} → Tallied ps e f w t x threshold reordering acknowledged n c → w ≤ e / (t + 1) + 2 * passedOver ps * (f + 1) + x
+  bounded v =
       let p : v .byCount ≤ e / (t + 1) = le-div-iff-mul-le {k = t + 1} (omega arith) .1 (v .counts) in
-      rw (mul-add, mul-one) (omega (arith, v .total, v .before, epoch v q h))
+      rw (mul-add, mul-one) (omega (arith, v .total, v .before, epoch v))

@@ -9,16 +9,17 @@ use lib.ListN.{length}
 use Rattle.wire.proofs.Lengths.{split}
 use Rattle.window.specs.Window.{isSet}
 use Rattle.receiver.specs.declared.Millis.{Millis}
-use Rattle.receiver.specs.declared.Micros.{Micros}
-use Rattle.receiver.specs.declared.Seen.{Seen}
+use Rattle.seen.specs.declared.Micros.{Micros}
+use Rattle.seen.specs.declared.Seen.{Seen}
 use Rattle.receiver.specs.declared.Pending.{Pending}
 use Rattle.receiver.specs.declared.Receiver.{Receiver}
-use Rattle.receiver.specs.Record.{floor, placeOf, received}
+use Rattle.seen.specs.Received.{floor, placeOf, received}
 use Rattle.promises.specs.Sequence.{packet, threshold, Calls, accepted, after, replied, opening}
 use Rattle.promises.specs.Accepted.{Packet, acceptedOf, packets, since, frames}
 use Rattle.promises.specs.Told.{largest, elicitingOf, among, firstArrival, largestSequence, seenOf, leftArrival, pendingOf, tell, Told}
-use Rattle.promises.proofs.Step.{step-meets}
-use Rattle.promises.proofs.Marks.{told-value, told-number, none-above, seen}
+use Rattle.promises.proofs.Acceptance.{step-meets}
+use Rattle.promises.proofs.Packets.{none-above}
+use Rattle.promises.proofs.Marks.{told-value, told-number, seen}
 use Rattle.promises.proofs.Along.{agrees, cause-is, seen-is, end-is, sequence-is}
 
 -- of packets of which there is one the first arrival does not depend on what stood before
@@ -37,7 +38,7 @@ module _ (t q : ℕ) (m : Millis) (u : Micros) (cs : Calls) where
   whole-is : after o cs ≡ tell o acc (after o cs .cause)
   whole-is = agrees t q m u cs ∙ ap (tell o acc) (sym (cause-is t q m u cs))
 
-  pub window-is : (n : ℕ) → floor (after o cs .seen .end) ≤ n → n < after o cs .seen .end → received (after o cs .seen) n ≡ among (packets acc) n
+  pub window-is : (n : ℕ) → floor (after o cs .seen) ≤ n → n < after o cs .seen .end → received (after o cs .seen) n ≡ among (packets acc) n
   unfolding seenOf
   window-is n l h =
       let f : after o cs .seen .end ≡ largest (packets acc) = end-is t q m u cs in

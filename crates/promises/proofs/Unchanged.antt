@@ -8,7 +8,7 @@ use Rattle.receiver.specs.declared.Receiver.{Receiver}
 use Rattle.promises.specs.Sequence.{Call, Calls, Reply, accepted, stale, refused, none, _then_, step, inOrder, after, replied}
 use Rattle.promises.specs.Accepted.{joined, acceptedOf}
 use Rattle.promises.specs.Unchanged.{Unchanged}
-use Rattle.promises.proofs.Step.{step-kept}
+use Rattle.promises.proofs.Acceptance.{step-kept}
 
 -- calls that lead to the same record lead to the same one with the same calls after them
 same-later : (r : Receiver) (cs ds : Calls) (l : List Call) → after r cs ≡ after r ds → after r (inOrder cs l) ≡ after r (inOrder ds l)

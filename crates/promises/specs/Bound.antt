@@ -2,30 +2,27 @@
 use Prim.Native.Nat.{ℕ, _+_, _*_, _/_, _≤_}
 use mathlib.Core.Path.{_≡_}
 use mathlib.Core.Bool.{Bool, true, false, not, _&&_}
-use mathlib.Core.List.{List}
 use lib.Dec.{eqb}
 use Rattle.wire.specs.Bytes.{pick}
 use Rattle.receiver.specs.declared.Millis.{Millis}
-use Rattle.receiver.specs.declared.Micros.{Micros}
+use Rattle.seen.specs.declared.Micros.{Micros}
 use Rattle.receiver.specs.declared.Receiver.{Receiver}
 use Rattle.receiver.specs.Packet.{congestion}
-use Rattle.promises.specs.Sequence.{Call, packet, timer, immediate, threshold, write, Calls, none, _then_, after, replied, opening}
-use Rattle.promises.specs.Passed.{oneIf}
-use Rattle.promises.specs.Counted.{isAccepted, acceptedCalls, S, T, openingT, counted}
+use Rattle.promises.specs.Sequence.{Calls, none, _then_, Reply, accepted, stale, refused, after, replied, opening}
+use Rattle.promises.specs.Accepted.{acceptedOf, packets}
+use Rattle.promises.specs.Told.{lastMark, startsCongestion}
+use Rattle.promises.specs.Counted.{E, S, T, F, C, I, D, W, isWrite, openingT}
 
 -- ---- the premise
-
--- a call to write an acknowledgment; it is written where the call is accepted
-abbrev pub isWrite : Call → Bool
-isWrite (packet n time eliciting marked) = false
-isWrite (timer time) = false
-isWrite immediate = false
-isWrite (threshold sequence t delay q) = false
-isWrite (write time room) = true
 
 -- an acknowledgment is due: a cause stands
 abbrev pub isDue : Receiver → Bool
 isDue r = not (eqb (r .cause) 0)
+
+abbrev pub isAccepted : Reply → Bool
+isAccepted accepted = true
+isAccepted stale = false
+isAccepted (refused k) = false
 
 -- "if acknowledgments are written only while one is due"
 unfoldable pub onlyDue : Receiver → Calls → Bool
@@ -35,33 +32,18 @@ onlyDue r (cs then c) = onlyDue r cs && pick (isWrite c && isAccepted (replied r
 -- ---- the bound
 
 -- "E divided by T + 1, rounded down, plus 2 x S x (F + 1), plus C + I + D"; t is the opening's T, cs the accepted calls
-abbrev pub bound : ℕ → List Call → ℕ
-bound t cs = counted cs .E / (T t cs + 1) + 2 * S cs * (counted cs .F + 1) + (counted cs .C + counted cs .I + counted cs .D)
+abbrev pub bound : ℕ → Calls → ℕ
+bound t cs = E cs / (T t cs + 1) + 2 * S cs * (F cs + 1) + (C cs + I cs + D cs)
 
 -- "Over every sequence of calls on one receiver from its opening, [..] their number is at most" the bound; a refused opening's sequences too
 abbrev pub WrittenAtMost : Type 0
 WrittenAtMost =
     (t q : ℕ) (maximum : Millis) (minimum : Micros) (cs : Calls)
     → onlyDue (opening t q maximum minimum) cs ≡ true
-    → counted (acceptedCalls (opening t q maximum minimum) cs) .W ≤ bound (openingT t q maximum minimum) (acceptedCalls (opening t q maximum minimum) cs)
+    → W (acceptedOf (opening t q maximum minimum) cs) ≤ bound (openingT t q maximum minimum) (acceptedOf (opening t q maximum minimum) cs)
 
--- ---- "C counts accepted ack-eliciting packets for which the congestion line holds": by the line of the packet rule, on the record before the call
-
--- an ack-eliciting packet for which the line holds
-abbrev pub startsCongestion : Receiver → Call → Bool
-startsCongestion r (packet n time eliciting marked) = eliciting && congestion r marked
-startsCongestion r (timer time) = false
-startsCongestion r immediate = false
-startsCongestion r (threshold sequence t delay q) = false
-startsCongestion r (write time room) = false
-
--- how many of the calls are that and accepted
-unfoldable pub congestionStarts : Receiver → Calls → ℕ
-congestionStarts r none = 0
-congestionStarts r (cs then c) = congestionStarts r cs + oneIf (isAccepted (replied r cs c) && startsCongestion (after r cs) c)
-
--- C as read from the calls is that count
+-- "C counts accepted ack-eliciting packets for which the congestion line holds": the packet rule's own line, on the record that a packet with that mark finds, is the one that C reads
 abbrev pub StartsAsRead : Type 0
 StartsAsRead =
-    (t q : ℕ) (maximum : Millis) (minimum : Micros) (cs : Calls)
-    → congestionStarts (opening t q maximum minimum) cs ≡ counted (acceptedCalls (opening t q maximum minimum) cs) .C
+    (t q : ℕ) (maximum : Millis) (minimum : Micros) (cs : Calls) (marked : Bool)
+    → congestion (after (opening t q maximum minimum) cs) marked ≡ startsCongestion marked (lastMark (packets (acceptedOf (opening t q maximum minimum) cs)))

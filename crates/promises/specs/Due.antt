@@ -1,17 +1,17 @@
 -- Due: after any calls from an opening the cause is the one that the rules give when they are read from the accepted calls.
 use Prim.Native.Nat.{ℕ}
 use mathlib.Core.Path.{_≡_}
-use mathlib.Core.Bool.{Bool, true, false, not, _&&_, _||_}
-use lib.Dec.{ltb, eqb}
+use mathlib.Core.Bool.{Bool, true, false}
+use lib.Dec.{ltb}
 use Rattle.wire.specs.Bytes.{pick}
 use Rattle.receiver.specs.declared.Millis.{Millis}
-use Rattle.receiver.specs.declared.Micros.{Micros}
+use Rattle.seen.specs.declared.Micros.{Micros}
 use Rattle.receiver.specs.declared.Receiver.{Receiver}
 use Rattle.receiver.specs.Packet.{standing, firstCause}
 use Rattle.receiver.specs.Calls.{timerDue}
 use Rattle.promises.specs.Sequence.{packet, timer, immediate, threshold, write, Calls, none, _then_, after, opening}
 use Rattle.promises.specs.Accepted.{acceptedOf, packets, since, before, frames}
-use Rattle.promises.specs.Told.{largest, elicitingOf, lastMark, inForce, seenOf, pendingOf, tell}
+use Rattle.promises.specs.Told.{largest, elicitingOf, lastMark, startsCongestion, inForce, seenOf, pendingOf, tell}
 use Rattle.promises.specs.Order.{orderOf}
 
 -- what the calls tell, no cause among it
@@ -33,14 +33,14 @@ due opened (cs then immediate) = standing (due opened cs) 1
 due opened (cs then threshold s t d q) = due opened cs
 due opened (cs then write time room) = 0
 
--- the same in numbers, from the lists alone: 2, N > T; 3, order; 4, CE and the packet before had none, or there was none
+-- the same in numbers, from the lists alone: 2, N > T; 3, order; 4, congestion
 abbrev pub inNumbers : Receiver → Calls → ℕ → Micros → Bool → ℕ
 inNumbers opened cs n time marked =
     let values = inForce (opened .agreed) (frames cs) in
     let now = cs then packet n time true marked in
     pick (ltb (values .threshold) (pendingOf now .count)) 2
     (pick (orderOf (packets now) (values .reordering) n (largest (elicitingOf (packets cs))) (largest (before cs)) (largest (elicitingOf (since now)))) 3
-    (pick (marked && (eqb (largest (packets cs)) 0 || not (lastMark (packets cs)))) 4 0))
+    (pick (startsCongestion marked (lastMark (packets cs))) 4 0))
 
 pub record Due : Type 0 where
   -- the cause after any calls from any opening

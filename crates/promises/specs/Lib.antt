@@ -4,9 +4,11 @@ pub mod Kept
 pub mod Unchanged
 pub mod Told
 pub mod Replies
+pub mod Acknowledged
 pub mod Order
 pub mod Due
 pub mod Passed
 pub mod Counted
 pub mod Bound
 pub mod Reached
+pub mod Settled

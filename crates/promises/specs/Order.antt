@@ -6,9 +6,12 @@ use mathlib.Core.List.{List}
 use lib.Dec.{leb, ltb}
 use Rattle.window.specs.declared.Missing.{Missing}
 use Rattle.window.specs.declared.Missing.the-variants.{At, Nothing}
-use Rattle.receiver.specs.Record.{floor}
-use Rattle.receiver.specs.Packet.{isAny, order}
-use Rattle.promises.specs.Sequence.{Calls}
+use Rattle.receiver.specs.declared.Millis.{Millis}
+use Rattle.seen.specs.declared.Micros.{Micros}
+use Rattle.receiver.specs.declared.Receiver.{Receiver}
+use Rattle.seen.specs.Received.{floorOf, isAny}
+use Rattle.receiver.specs.Packet.{order}
+use Rattle.promises.specs.Sequence.{packet, write, Calls, none, _then_, accepted, after, replied, opening}
 use Rattle.promises.specs.Accepted.{Packet, packets}
 use Rattle.promises.specs.Told.{largest, among, seenOf}
 
@@ -19,7 +22,7 @@ missingFrom ps (suc k) n = elim (among ps n) [ true ↦ missingFrom ps k (suc n)
 
 -- "missing numbers are sought only in the window": the smallest from `from`, at least the floor, up to below `to`
 unfoldable pub smallestMissing : List Packet → ℕ → ℕ → Missing
-smallestMissing ps from to = missingFrom ps (to - max from (floor (largest ps))) (max from (floor (largest ps)))
+smallestMissing ps from to = missingFrom ps (min to (largest ps) - max from (floorOf (largest ps))) (max from (floorOf (largest ps)))
 
 -- "U - m >= R", where U's end is `end`
 abbrev pub farBelow : ℕ → ℕ → Missing → Bool
@@ -36,3 +39,27 @@ orderOf ps (suc (suc r)) n highest acknowledged end =
 -- the line that the calls go by, on the window that any accepted calls tell, says this
 abbrev pub InNumbers : Type 0
 InNumbers = (cs : Calls) (r n highest acknowledged end : ℕ) → order (seenOf cs) r n highest acknowledged end ≡ orderOf (packets cs) r n highest acknowledged end
+
+-- ---- U and H
+
+-- "U - m >= R" asked of H instead: for an accepted ack-eliciting packet after any calls from an opening the line says the same. `old` and `new` are the records before and after it.
+abbrev pub SameByHighest : Type 0
+SameByHighest =
+    (t q : ℕ) (maximum : Millis) (minimum : Micros) (cs : Calls) (n : ℕ) (time : Micros) (marked : Bool)
+    → replied (opening t q maximum minimum) cs (packet n time true marked) ≡ accepted
+    → let old = after (opening t q maximum minimum) cs in
+    let new = after (opening t q maximum minimum) (cs then packet n time true marked) in
+    order (new .seen) (old .agreed .reordering) n (old .highest) (old .acknowledged) (new .highest)
+    ≡ order (new .seen) (old .agreed .reordering) n (old .highest) (old .acknowledged) (new .pending .end)
+
+-- packets 0 and 2, a write, and packet 1, all ack-eliciting, on a usual opening
+abbrev pub apart : Receiver
+apart =
+    let start : Micros = record { 0 = 0 } in
+    after (opening 1 1 (record { 0 = 25 }) (record { 0 = 1000 }))
+    (none then packet 0 start true false then packet 2 start true false then write start 64 then packet 1 start true false)
+
+-- and yet the two may be apart: then U is 1 and H is 2
+pub record Apart : Type 0 where
+  pub unacknowledged : apart .pending .end ≡ 2
+  pub highest : apart .highest ≡ 3

@@ -1,12 +1,14 @@
 -- Sequences that meet the premise of demand 3: four reach its bound, and in the last each of three frames makes one number passed over count anew.
-use Prim.Native.Nat.{ℕ, zero, suc, _^_}
+use Prim.Native.Nat.{ℕ, zero, suc, _+_, _^_}
 use mathlib.Core.Path.{_≡_}
 use mathlib.Core.Bool.{true, false}
 use mathlib.Core.List.{List, [], _∷_}
 use Rattle.receiver.specs.declared.Millis.{Millis}
-use Rattle.receiver.specs.declared.Micros.{Micros}
-use Rattle.promises.specs.Sequence.{Call, packet, timer, immediate, threshold, write, none, inOrder, opening}
-use Rattle.promises.specs.Counted.{acceptedCalls, S, openingT, Counts, counts, counted}
+use Rattle.seen.specs.declared.Micros.{Micros}
+use Rattle.receiver.specs.declared.Receiver.{Receiver}
+use Rattle.promises.specs.Sequence.{Call, packet, timer, immediate, threshold, write, Calls, none, inOrder, opening}
+use Rattle.promises.specs.Accepted.{acceptedOf}
+use Rattle.promises.specs.Counted.{E, S, F, C, I, D, W, openingT}
 use Rattle.promises.specs.Bound.{onlyDue, bound}
 
 -- the usual delays
@@ -16,21 +18,28 @@ usualMaximum = record { 0 = 25 }
 abbrev pub usualMinimum : Micros
 usualMinimum = record { 0 = 1000 }
 
--- the accepted ones of the calls, after an opening with T and R
-abbrev pub acceptedOf : ℕ → ℕ → List Call → List Call
-acceptedOf t q calls = acceptedCalls (opening t q usualMaximum usualMinimum) (inOrder none calls)
+-- an opening with T, R and these
+abbrev pub openedWith : ℕ → ℕ → Receiver
+openedWith t q = opening t q usualMaximum usualMinimum
+
+-- the accepted ones of calls from it
+abbrev pub acceptedFrom : ℕ → ℕ → List Call → Calls
+acceptedFrom t q calls = acceptedOf (openedWith t q) (inOrder none calls)
 
 -- n acknowledgments are written, each while one is due, and the bound is n
 pub record Reaches (t q : ℕ) (calls : List Call) (n : ℕ) : Type 0 where
-  pub due : onlyDue (opening t q usualMaximum usualMinimum) (inOrder none calls) ≡ true
-  pub written : counted (acceptedOf t q calls) .W ≡ n
-  pub most : bound (openingT t q usualMaximum usualMinimum) (acceptedOf t q calls) ≡ n
+  pub due : onlyDue (openedWith t q) (inOrder none calls) ≡ true
+  pub written : W (acceptedFrom t q calls) ≡ n
+  pub most : bound (openingT t q usualMaximum usualMinimum) (acceptedFrom t q calls) ≡ n
 
--- each acknowledgment is written while one is due; the counts E, F, C, I, D, W of the calls, and S
-pub record Comes (t q : ℕ) (calls : List Call) (n : Counts) (s : ℕ) : Type 0 where
-  pub due : onlyDue (opening t q usualMaximum usualMinimum) (inOrder none calls) ≡ true
-  pub counts : counted (acceptedOf t q calls) ≡ n
-  pub passed : S (acceptedOf t q calls) ≡ s
+-- each is written while one is due; E, S, F, C + I + D and W of the calls
+pub record Comes (t q : ℕ) (calls : List Call) (e s f x w : ℕ) : Type 0 where
+  pub due : onlyDue (openedWith t q) (inOrder none calls) ≡ true
+  pub eliciting : E (acceptedFrom t q calls) ≡ e
+  pub passed : S (acceptedFrom t q calls) ≡ s
+  pub frames : F (acceptedFrom t q calls) ≡ f
+  pub others : C (acceptedFrom t q calls) + I (acceptedFrom t q calls) + D (acceptedFrom t q calls) ≡ x
+  pub written : W (acceptedFrom t q calls) ≡ w
 
 -- ---- calls
 
@@ -97,4 +106,4 @@ pub record Reached : Type 0 where
   -- a refused opening: T is 1, one write, and 2 / (1 + 1)
   pub refusedOpening : Reaches (2 ^ 62) 0 (arrives 0 ∷ arrives 1 ∷ writes ∷ []) 1
   -- T 9, R 1, then 2, 3, 4: four writes for S = 1
-  pub raisedR : Comes 9 1 raisedR (counts 4 3 0 0 0 4) 1
+  pub raisedR : Comes 9 1 raisedR 4 1 3 0 4

@@ -5,11 +5,14 @@ use mathlib.Core.Path.{_≡_}
 use mathlib.Core.Bool.{not, _&&_}
 use mathlib.Core.List.{[], _∷_}
 use lib.Dec.{leb, ltb, eqb}
+use lib.ListN.{length}
 use Rattle.receiver.specs.declared.Millis.{Millis}
-use Rattle.receiver.specs.declared.Micros.{Micros}
+use Rattle.seen.specs.declared.Micros.{Micros}
 use Rattle.receiver.specs.declared.Receiver.{Receiver}
-use Rattle.receiver.specs.Record.{small, floor, delayRule}
-use Rattle.receiver.specs.Write.{fits, ackDelay}
+use Rattle.seen.specs.Numbers.{small}
+use Rattle.seen.specs.Received.{floorOf}
+use Rattle.receiver.specs.Record.{delayRule}
+use Rattle.seen.specs.Ack.{frame, ackDelay}
 use Rattle.receiver.specs.Exactly.{row, first, verdictOf}
 use Rattle.promises.specs.Sequence.{Call, packet, timer, immediate, threshold, write, Calls, none, _then_, Reply, replyOf, replyTo, replied, opening}
 use Rattle.promises.specs.Accepted.{joined, acceptedOf, packets, frames}
@@ -21,8 +24,8 @@ replyAfter opened cs (packet n time eliciting marked) =
     replyOf
     (first
     (row 5 (not (small n && small (time .0)))
-    ∷ row 6 (leb (floor (largest (packets cs))) n && (ltb n (largest (packets cs)) && among (packets cs) n))
-    ∷ row 7 (ltb n (floor (largest (packets cs))))
+    ∷ row 6 (leb (floorOf (largest (packets cs))) n && (ltb n (largest (packets cs)) && among (packets cs) n))
+    ∷ row 7 (ltb n (floorOf (largest (packets cs))))
     ∷ []))
 replyAfter opened cs (timer time) = replyOf (first (row 5 (not (small (time .0))) ∷ []))
 replyAfter opened cs immediate = replyOf (first (row 8 (eqb (largest (packets cs)) 0) ∷ []))
@@ -35,7 +38,7 @@ replyAfter opened cs (write time room) =
     (first
     (row 5 (not (small (time .0)))
     ∷ row 8 (eqb (largest (packets cs)) 0)
-    ∷ row 9 (not (fits (seenOf cs) (ackDelay (seenOf cs) time) room 1))
+    ∷ row 9 (ltb room (length (frame (seenOf cs) (ackDelay (seenOf cs) time) 1)))
     ∷ []))
 
 -- the accepted calls, by these rows

@@ -2,20 +2,20 @@
 -- Each quantity is read from the lists of accepted packets and frames; what may be absent is an end, one past the number, and 0 for none.
 use Prim.Native.Nat.{ℕ, zero, suc, _+_, _^_, _≤_, _<_, min, max}
 use mathlib.Core.Path.{_≡_}
-use mathlib.Core.Bool.{Bool, false, _&&_, _||_}
+use mathlib.Core.Bool.{Bool, false, not, _&&_, _||_}
 use mathlib.Core.List.{List, [], _∷_}
 use lib.Dec.{leb, ltb, eqb}
 use lib.ListN.{length}
 use Rattle.wire.specs.Bytes.{pick}
 use Rattle.window.specs.Window.{windowOf, withBit}
 use Rattle.receiver.specs.declared.Millis.{Millis}
-use Rattle.receiver.specs.declared.Micros.{Micros}
-use Rattle.receiver.specs.declared.Seen.{Seen}
+use Rattle.seen.specs.declared.Micros.{Micros}
+use Rattle.seen.specs.declared.Seen.{Seen}
 use Rattle.receiver.specs.declared.Pending.{Pending}
 use Rattle.receiver.specs.declared.Agreed.{Agreed}
 use Rattle.receiver.specs.declared.Receiver.{Receiver}
-use Rattle.receiver.specs.Record.{floor, received}
-use Rattle.receiver.specs.Write.{numberAt}
+use Rattle.seen.specs.Received.{floor, received}
+use Rattle.seen.specs.Ack.{numberAt}
 use Rattle.promises.specs.Sequence.{packet, timer, immediate, threshold, write, Calls, none, _then_, accepted, after, replied, opening}
 use Rattle.promises.specs.Accepted.{Packet, Frame, acceptedOf, packets, since, before, frames}
 
@@ -50,6 +50,10 @@ firstArrival other (p ∷ ps) = firstArrival (p .time) ps
 unfoldable pub lastMark : List Packet → Bool
 lastMark [] = false
 lastMark (p ∷ ps) = p .marked
+
+-- "4, congestion: this packet has CE and the previously accepted packet, of either kind, had not, or there was none": `before` is the mark of that one
+abbrev pub startsCongestion : Bool → Bool → Bool
+startsCongestion ce before = ce && not before
 
 -- ---- the window of "the last 1,024 numbers"
 
@@ -124,7 +128,7 @@ pub record Tells (opened : Receiver) (cs : Calls) : Type 0 where
   -- the whole record; which cause is due is the theorem Due
   pub whole : after opened cs ≡ tell opened (acceptedOf opened cs) (after opened cs .cause)
   -- a number from the floor up to L is marked exactly when it was accepted
-  pub window : (n : ℕ) → floor (after opened cs .seen .end) ≤ n → n < after opened cs .seen .end
+  pub window : (n : ℕ) → floor (after opened cs .seen) ≤ n → n < after opened cs .seen .end
       → received (after opened cs .seen) n ≡ among (packets (acceptedOf opened cs)) n
   -- no number is accepted twice
   pub once : (n : ℕ) (time : Micros) (eliciting marked : Bool) → replied opened cs (packet n time eliciting marked) ≡ accepted

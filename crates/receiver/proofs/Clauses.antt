@@ -12,10 +12,12 @@ use Rattle.wire.specs.Numbers.{limit}
 use Rattle.window.specs.Window.{valueOf, isSet, noneBelow}
 use Rattle.window.proofs.Laws.{none-says, none-is}
 use Rattle.receiver.specs.declared.Receiver.{Receiver}
-use Rattle.receiver.specs.declared.Seen.{Seen}
+use Rattle.seen.specs.declared.Seen.{Seen}
 use Rattle.receiver.specs.declared.Limits.{Limits}
 use Rattle.receiver.specs.declared.Pending.{Pending}
-use Rattle.receiver.specs.Record.{small, smallEnd, limitsRule, delayRule, seenConsistent, pendingConsistent, agreedConsistent, numbersObey, marksConsistent, consistent, microsOf}
+use Rattle.seen.specs.Numbers.{small, smallEnd}
+use Rattle.seen.specs.Received.{seenConsistent, numbersObey, marksConsistent}
+use Rattle.receiver.specs.Record.{limitsRule, delayRule, pendingConsistent, agreedConsistent, consistent, microsOf}
 use Rattle.receiver.specs.Consistent.{Consistent, ConsistentExactly}
 
 -- both sides of a conjunction
@@ -156,14 +158,6 @@ is r k =
 
 pub consistent-exactly : ConsistentExactly
 consistent-exactly r = (says r, is r)
-
--- one failed test that a consistent record would pass, in whatever order the tests are made
-pub fails : (r : Receiver) {s : Bool} → s ≡ false → (Consistent r → s ≡ true) → consistent r ≡ false
-fails r {s} e f = go (consistent r) refl
-  where
-    go : (b : Bool) → consistent r ≡ b → consistent r ≡ false
-    go false g = g
-    go true g = let h : true ≡ false = sym (f (says r g)) ∙ e in let z : _≡_ {A = ℕ} 0 1 = cc in absurd (omega arith)
 
 -- own limits that are allowed can be converted
 pub allowed-below : (l : Limits) → limitsRule l ≡ true → l .maximum .0 < 16384

@@ -9,13 +9,15 @@ use borrow.Author.Tests.{le-leb, lt-leb, lt-ltb, le-ltb}
 use lib.Dec.{leb, ltb, eqb}
 use Rattle.wire.specs.Bytes.{pick}
 use Rattle.wire.proofs.Lengths.{split}
-use Rattle.receiver.specs.declared.Micros.{Micros}
-use Rattle.receiver.specs.declared.Seen.{Seen}
+use Rattle.seen.specs.declared.Micros.{Micros}
+use Rattle.seen.specs.declared.Seen.{Seen}
 use Rattle.receiver.specs.declared.Receiver.{Receiver}
 use Rattle.receiver.specs.declared.Verdict.{Verdict}
 use Rattle.receiver.specs.declared.Verdict.the-variants.{Accepted, Stale, Refused}
-use Rattle.receiver.specs.Record.{small, floor, received, limitsRule, delayRule, consistent}
-use Rattle.receiver.specs.Packet.{numberRefusal, packetRefusal, packetAfter, packetCall, judged}
+use Rattle.seen.specs.Numbers.{small}
+use Rattle.seen.specs.Received.{floor, received, numberRefusal}
+use Rattle.receiver.specs.Record.{limitsRule, delayRule, consistent}
+use Rattle.receiver.specs.Packet.{packetRefusal, packetAfter, packetCall, judged}
 use Rattle.receiver.specs.Calls.{opened, usual, openRefusal, openCall, timerRefusal, timerAfter, timerCall, immediateRefusal, immediateAfter, immediateCall, agreedAfter, thresholdVerdict, thresholdCall, heard}
 use Rattle.receiver.specs.Exactly.{Row, row, first, packetRows, Exactly, Unchanged, verdictOf}
 
@@ -50,7 +52,7 @@ next-test false k n rows e = refl
 
 -- 6 and 7
 number-rows : (s : Seen) (n : ℕ)
-    → numberRefusal s n ≡ first (row 6 (leb (floor (s .end)) n && (ltb n (s .end) && received s n)) ∷ row 7 (ltb n (floor (s .end))) ∷ [])
+    → numberRefusal s n ≡ first (row 6 (leb (floor s) n && (ltb n (s .end) && received s n)) ∷ row 7 (ltb n (floor s)) ∷ [])
 unfolding numberRefusal first
 number-rows s n =
     split (s .end) n

@@ -3,8 +3,9 @@
 use mathlib.Core.Path.{refl}
 use Rattle.window.specs.Words.{numberOf, wordsOf, bit}
 use Rattle.window.specs.Window.{firstClear}
-use Rattle.receiver.specs.Record.{limitsRule, delayRule, seenConsistent, pendingConsistent, agreedConsistent, consistent}
-use Rattle.receiver.specs.Packet.{numberRefusal, packetRefusal, seenAfter, pendingAfter, firstMissing, outOfOrder, gapReached, order, congestion, firstCause, causeAfter, packetAfter, packetCall}
+use Rattle.seen.specs.Received.{seenConsistent, numberRefusal, seenAfter, firstMissing}
+use Rattle.receiver.specs.Record.{limitsRule, delayRule, pendingConsistent, agreedConsistent, consistent}
+use Rattle.receiver.specs.Packet.{packetRefusal, pendingAfter, outOfOrder, gapReached, order, congestion, firstCause, causeAfter, packetAfter, packetCall}
 use Rattle.receiver.specs.Calls.{opened}
 use Rattle.receiver.specs.Write.{written}
 use Rattle.receiver.specs.Examples.{dues, Arrivals}

@@ -1,13 +1,8 @@
-pub mod Tests
 pub mod Standing
 pub mod Missing
 pub mod Clauses
 pub mod Raised
-pub mod Ranges
-pub mod Fitting
-pub mod Storing
 pub mod Written
-pub mod Maximal
 pub mod Exactly
 pub mod Emits
 pub mod Only

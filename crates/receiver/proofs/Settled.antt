@@ -5,12 +5,14 @@ use Rattle.wire.specs.Numbers.{firstFrom, form, encode, encodeAll}
 use Rattle.window.specs.Words.{numberOf, wordsOf, bit}
 use Rattle.window.specs.Window.{firstClear, runBelow}
 use Rattle.frames.specs.Ack.{gapsFrom, ackNumbers}
-use Rattle.receiver.specs.Record.{limitsRule, delayRule, seenConsistent, pendingConsistent, agreedConsistent, consistent}
-use Rattle.receiver.specs.Packet.{numberRefusal, packetRefusal, seenAfter, pendingAfter, firstMissing, outOfOrder, gapReached, order, congestion, firstCause, causeAfter, packetAfter, packetCall}
+use Rattle.seen.specs.Received.{seenConsistent, numberRefusal, seenAfter, firstMissing}
+use Rattle.receiver.specs.Record.{limitsRule, delayRule, pendingConsistent, agreedConsistent, consistent}
+use Rattle.receiver.specs.Packet.{packetRefusal, pendingAfter, outOfOrder, gapReached, order, congestion, firstCause, causeAfter, packetAfter, packetCall}
 use Rattle.receiver.specs.Calls.{opened}
-use Rattle.receiver.specs.Write.{rangesBelow, frame, largestWhere, kept, writeRefusal, written, writeAnswer, writeBytes}
+use Rattle.seen.specs.Ack.{rangesBelow, frame, largestWhere, rangesKept}
+use Rattle.receiver.specs.Write.{writeRefusal, written, writeAnswer, writeBytes}
 use Rattle.receiver.specs.Settled.{arrived, Frames}
 
 pub frames : Frames
-unfolding arrived opened packetCall packetRefusal numberRefusal consistent seenConsistent pendingConsistent agreedConsistent limitsRule delayRule packetAfter seenAfter pendingAfter causeAfter firstCause order outOfOrder gapReached firstMissing congestion numberOf wordsOf bit firstClear runBelow writeBytes writeAnswer writeRefusal written kept largestWhere frame rangesBelow ackNumbers gapsFrom encodeAll encode form firstFrom
+unfolding arrived opened packetCall packetRefusal numberRefusal consistent seenConsistent pendingConsistent agreedConsistent limitsRule delayRule packetAfter seenAfter pendingAfter causeAfter firstCause order outOfOrder gapReached firstMissing congestion numberOf wordsOf bit firstClear runBelow writeBytes writeAnswer writeRefusal written rangesKept largestWhere frame rangesBelow ackNumbers gapsFrom encodeAll encode form firstFrom
 frames = record { P6 = refl; P7-five = refl; P7-six = refl; P7-four = refl }

@@ -5,7 +5,7 @@ use lib.Dec.{leb, ltb, eqb}
 use Rattle.wire.specs.Bytes.{pick}
 use Rattle.window.specs.Window.{windowOf}
 use Rattle.receiver.specs.declared.Millis.{Millis}
-use Rattle.receiver.specs.declared.Micros.{Micros}
+use Rattle.seen.specs.declared.Micros.{Micros}
 use Rattle.receiver.specs.declared.Agreed.{Agreed}
 use Rattle.receiver.specs.declared.Limits.{Limits}
 use Rattle.receiver.specs.declared.Receiver.{Receiver}
@@ -13,7 +13,8 @@ use Rattle.receiver.specs.declared.Answer.{Answer}
 use Rattle.receiver.specs.declared.Verdict.{Verdict}
 use Rattle.receiver.specs.declared.Verdict.the-variants.{Accepted, Stale, Refused}
 use Rattle.receiver.specs.declared.Heard.{Heard}
-use Rattle.receiver.specs.Record.{small, microsOf, limitsRule, delayRule, consistent}
+use Rattle.seen.specs.Numbers.{small}
+use Rattle.receiver.specs.Record.{microsOf, limitsRule, delayRule, consistent}
 use Rattle.receiver.specs.Packet.{standing, judged}
 
 -- ---- "Opening takes [T, R], its own maximum delay in milliseconds and its own minimum delay in microseconds"

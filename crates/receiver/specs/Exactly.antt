@@ -6,11 +6,13 @@ use mathlib.Core.List.{List, [], _∷_}
 use lib.Dec.{leb, ltb, eqb}
 use Rattle.wire.specs.Bytes.{pick}
 use Rattle.receiver.specs.declared.Millis.{Millis}
-use Rattle.receiver.specs.declared.Micros.{Micros}
+use Rattle.seen.specs.declared.Micros.{Micros}
 use Rattle.receiver.specs.declared.Receiver.{Receiver}
 use Rattle.receiver.specs.declared.Verdict.{Verdict}
 use Rattle.receiver.specs.declared.Verdict.the-variants.{Accepted, Stale, Refused}
-use Rattle.receiver.specs.Record.{small, floor, received, limitsRule, delayRule, consistent}
+use Rattle.seen.specs.Numbers.{small}
+use Rattle.seen.specs.Received.{floor, received}
+use Rattle.receiver.specs.Record.{limitsRule, delayRule, consistent}
 use Rattle.receiver.specs.Packet.{packetCall}
 use Rattle.receiver.specs.Calls.{opened, usual, openCall, timerCall, immediateCall, thresholdCall}
 
@@ -41,8 +43,8 @@ abbrev pub packetRows : Receiver → ℕ → Micros → List Row
 packetRows r n time =
     inconsistent r
     ∷ row 5 (not (small n && small (time .0)))
-    ∷ row 6 (leb (floor (r .seen .end)) n && (ltb n (r .seen .end) && received (r .seen) n))
-    ∷ row 7 (ltb n (floor (r .seen .end)))
+    ∷ row 6 (leb (floor (r .seen)) n && (ltb n (r .seen .end) && received (r .seen) n))
+    ∷ row 7 (ltb n (floor (r .seen)))
     ∷ []
 
 abbrev pub timerRows : Receiver → Micros → List Row

@@ -1,42 +1,26 @@
--- "Packet": refusals 1, 5, 6, 7; what an accepted packet marks and raises; the causes count, order and congestion.
-use Prim.Native.Nat.{ℕ, zero, suc, _+_, _-_, _/_, _^_, min, max}
+-- "Packet": refusals 1, 5, then 6 and 7; what an accepted packet raises; the causes count, order and congestion.
+use Prim.Native.Nat.{ℕ, zero, suc, _+_, _-_, _^_, min, max}
 use mathlib.Core.Bool.{Bool, true, false, not, _&&_, _||_}
 use lib.Dec.{leb, ltb, eqb}
 use Rattle.wire.specs.Bytes.{pick}
-use Rattle.window.specs.Window.{valueOf, windowOf, isSet, withBit, firstClear}
-use Rattle.window.specs.declared.Window.{Window}
 use Rattle.window.specs.declared.Missing.{Missing}
 use Rattle.window.specs.declared.Missing.the-variants.{At, Nothing}
-use Rattle.receiver.specs.declared.Micros.{Micros}
-use Rattle.receiver.specs.declared.Seen.{Seen}
+use Rattle.seen.specs.declared.Micros.{Micros}
+use Rattle.seen.specs.declared.Seen.{Seen}
 use Rattle.receiver.specs.declared.Pending.{Pending}
 use Rattle.receiver.specs.declared.Receiver.{Receiver}
 use Rattle.receiver.specs.declared.Answer.{Answer}
-use Rattle.receiver.specs.Record.{small, floor, placeOf, received, consistent}
+use Rattle.seen.specs.Numbers.{small}
+use Rattle.seen.specs.Received.{numberRefusal, seenAfter, firstMissing, isAny}
+use Rattle.receiver.specs.Record.{consistent}
 
 -- ---- refusals
-
--- "7: the packet number lies below the window; 6: [it] lies in the window and was received"
-unfoldable pub numberRefusal : Seen → ℕ → ℕ
-numberRefusal s n = pick (leb (s .end) n) 0 (pick (ltb n (floor (s .end))) 7 (pick (received s n) 6 0))
 
 -- "Order: 1 first. Number arguments next, giving 5. Then [..] 6, 7"
 unfoldable pub packetRefusal : Receiver → ℕ → Micros → ℕ
 packetRefusal r n time = pick (consistent r) (pick (small n && small (time .0)) (numberRefusal (r .seen) n) 5) 1
 
--- ---- "Accepted packets are marked and L moves if exceeded"
-
-abbrev pub markAt : Window → ℕ → Window
-markAt w place = windowOf (withBit (valueOf w) place)
-
-abbrev pub moveOn : Window → ℕ → Window
-moveOn w d = windowOf (valueOf w / 2 ^ d)
-
-unfoldable pub seenAfter : Seen → ℕ → Micros → Seen
-seenAfter s n time =
-    pick (ltb n (s .end))
-    (record { window = markAt (s .window) (placeOf (s .end) n); end = s .end; arrived = s .arrived })
-    (record { window = markAt (moveOn (s .window) (n + 1 - s .end)) 1023; end = n + 1; arrived = time })
+-- ---- what is still to be acknowledged
 
 -- "An ack-eliciting one raises N, H and U as needed"; "At 2^62, N stays"
 unfoldable pub pendingAfter : Pending → ℕ → Micros → Pending
@@ -44,16 +28,6 @@ pendingAfter p n time =
     record { count = min (p .count + 1) (2 ^ 62); end = max (p .end) (n + 1); first = pick (eqb (p .count) 0) time (p .first) }
 
 -- ---- the causes; seen and pending are as the packet leaves them
-
--- "missing numbers are sought only in the window as it stands after this packet": the place of the first from `from` up to below `to`
-unfoldable pub firstMissing : Seen → ℕ → ℕ → Missing
-firstMissing s from to =
-    let low = placeOf (s .end) (max from (floor (s .end))) in
-    firstClear (placeOf (s .end) to - low) low (valueOf (s .window))
-
-abbrev pub isAny : Missing → Bool
-isAny (At place) = true
-isAny Nothing = false
 
 -- "R = 1: the number is below the earlier H, or it is above H and a number strictly between is missing; with no earlier H, all numbers from 0 up to it count as between"
 unfoldable pub outOfOrder : Seen → ℕ → ℕ → Bool

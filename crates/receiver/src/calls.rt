@@ -10,13 +10,13 @@ use crate::Agreed;
 use crate::Answer;
 use crate::Heard;
 use crate::Limits;
-use crate::Micros;
 use crate::Millis;
 use crate::Pending;
 use crate::Receiver;
-use crate::Seen;
 use crate::Verdict;
-use crate::numbers;
+use seen::Micros;
+use seen::Seen;
+use seen::numbers;
 use window::Window;
 
 // A cause, once set, stays.
@@ -137,7 +137,7 @@ impl Receiver {
             return false;
         }
         let agreed = self.agreed;
-        agreed.delay.0 <= numbers::less(time.0, pending.first.0)
+        agreed.delay.0 <= numbers::minus_or_zero(time.0, pending.first.0)
     }
 
     // The timer is looked at.

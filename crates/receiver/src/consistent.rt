@@ -1,38 +1,12 @@
 // What consistent means: refusal 1 is given exactly for a record that is not.
-// Which test comes when makes no difference to the answer. The window comes late, and this order costs a packet least.
+// What was received is tested last: its window costs most.
 ghost use mathlib.Core.Path.{_≡_};
-ghost use Rattle.receiver.specs.Record.{numbersObey, marksConsistent, pendingConsistent, agreedConsistent, consistent};
+ghost use Rattle.receiver.specs.Record.{pendingConsistent, agreedConsistent, restConsistent, consistent};
 use crate::Agreed;
 use crate::Limits;
 use crate::Pending;
 use crate::Receiver;
-use crate::Seen;
-use crate::numbers;
-
-impl Seen {
-    fn numbers_obey(self) -> bool
-        ensures { λ r. ⌜ r ≡ numbersObey self ⌝ }
-    {
-        if !numbers::is_small_end(self.end) {
-            return false;
-        }
-        numbers::is_small(self.arrived.0)
-    }
-
-    fn marks_consistent(self) -> bool
-        ensures { λ r. ⌜ r ≡ marksConsistent self ⌝ }
-    {
-        let end = self.end;
-        let window = self.window;
-        if !window.none_below(numbers::less(1024, end)) {
-            return false;
-        }
-        if end == 0 {
-            return true;
-        }
-        window.is_marked(1023)
-    }
-}
+use seen::numbers;
 
 impl Pending {
     fn consistent(self, end: u64) -> bool
@@ -70,22 +44,22 @@ impl Agreed {
 }
 
 impl Receiver {
-    // Whether the record is consistent.
-    pub fn consistent(self) -> bool
-        ensures { λ r. ⌜ r ≡ consistent self ⌝ }
+    // Whether the record is consistent but for what was received, of which only L is looked at.
+    pub(crate) fn rest_consistent(self) -> bool
+        ensures { λ r. ⌜ r ≡ restConsistent self ⌝ }
     {
         let seen = self.seen;
         let pending = self.pending;
         let agreed = self.agreed;
         let limits = self.limits;
         let end = seen.end;
+        if !pending.consistent(end) {
+            return false;
+        }
         if !limits.allowed() {
             return false;
         }
         if !agreed.consistent(limits) {
-            return false;
-        }
-        if !seen.numbers_obey() {
             return false;
         }
         if end < self.acknowledged {
@@ -94,15 +68,20 @@ impl Receiver {
         if end < self.highest {
             return false;
         }
-        if !pending.consistent(end) {
-            return false;
-        }
-        if !seen.marks_consistent() {
-            return false;
-        }
         if end == 0 {
             return self.cause == 0;
         }
         self.cause <= 5
+    }
+
+    // Whether the record is consistent.
+    pub fn consistent(self) -> bool
+        ensures { λ r. ⌜ r ≡ consistent self ⌝ }
+    {
+        if !self.rest_consistent() {
+            return false;
+        }
+        let seen = self.seen;
+        seen.consistent()
     }
 }

@@ -3,8 +3,8 @@ ghost use mathlib.Core.Path.{_≡_};
 ghost use Prim.Native.Nat.{_-_, _<_};
 ghost use Rattle.receiver.specs.Record.{microsOf, limitsRule, delayRule};
 use crate::Limits;
-use crate::Micros;
 use crate::Millis;
+use seen::Micros;
 
 impl Millis {
     // The same delay in microseconds.

@@ -1,13 +1,13 @@
 // The receiver record: what was received, what must still be acknowledged, and when that is due.
 // Carries "The receiver record" of document 01 (RFC 9000 section 13.2, ACK Frequency version 14).
 // Each call takes the record by value and hands the next one back; a refused call hands it back as it came.
-use window::Window;
+use seen::Micros;
+use seen::Seen;
 
 mod calls;
 mod causes;
 mod consistent;
 mod delays;
-mod numbers;
 mod packet;
 mod write;
 
@@ -15,22 +15,7 @@ mod write;
 #[repr(C)]
 pub struct Millis(pub u64);
 
-// Microseconds: every time, the own minimum delay and the delay in force (004).
-#[repr(C)]
-pub struct Micros(pub u64);
-
 // What may be absent is kept as an end: one past the number, and 0 for none.
-
-// What was received.
-#[repr(C)]
-pub struct Seen {
-    // Which of the last 1,024 numbers were received: place 1023 is L, place 1023 - d is L - d.
-    pub window: Window,
-    // The end of the largest received number, L.
-    pub end: u64,
-    // When L arrived.
-    pub arrived: Micros,
-}
 
 // What came since the last written ACK.
 #[repr(C)]

@@ -3,59 +3,12 @@ ghost use mathlib.Core.Path.{_≡_};
 ghost use Prim.Native.Nat.{_<_, _≤_, _^_};
 ghost use mathlib.Core.Bool.{true};
 ghost use Rattle.receiver.specs.Record.{consistent};
-ghost use Rattle.receiver.specs.Packet.{packetRefusal, numberRefusal, seenAfter, pendingAfter, packetAfter, packetCall};
+ghost use Rattle.receiver.specs.Packet.{pendingAfter, packetAfter, packetCall};
 use crate::Answer;
-use crate::Micros;
 use crate::Pending;
 use crate::Receiver;
-use crate::Seen;
-use crate::numbers;
-
-impl Seen {
-    // 7 below the window, 6 in it and received, 0 for a number that can be accepted.
-    fn refusal(self, number: u64) -> u64
-        requires { ⌜ number < 2 ^ 62 ⌝ }
-        ensures { λ r. ⌜ r ≡ numberRefusal self number ⌝ }
-    {
-        let end = self.end;
-        if end <= number {
-            return 0;
-        }
-        if number < numbers::less(end, 1024) {
-            return 7;
-        }
-        let window = self.window;
-        if window.is_marked(numbers::place_of(end, number)) {
-            return 6;
-        }
-        0
-    }
-
-    // With the number marked; L moves if it is exceeded.
-    fn with(self, number: u64, time: Micros) -> Seen
-        requires { ⌜ number < 2 ^ 62 ⌝ }
-        ensures { λ r. ⌜ r ≡ seenAfter self number time ⌝ }
-    {
-        let end = self.end;
-        let window = self.window;
-        if number < end {
-            let next = window.mark(numbers::place_of(end, number));
-            let arrived = self.arrived;
-            return Seen {
-                window: next,
-                end,
-                arrived,
-            };
-        }
-        let moved = window.advanced(number + 1 - end);
-        let next = moved.mark(1023);
-        Seen {
-            window: next,
-            end: number + 1,
-            arrived: time,
-        }
-    }
-}
+use seen::Micros;
+use seen::numbers;
 
 impl Pending {
     // With one ack-eliciting packet more; at 2^62 the count stays.
@@ -63,7 +16,7 @@ impl Pending {
         requires { ⌜ (number < 2 ^ 62) × (self .count ≤ 2 ^ 62) ⌝ }
         ensures { λ r. ⌜ r ≡ pendingAfter self number time ⌝ }
     {
-        let end = numbers::larger(self.end, number + 1);
+        let end = numbers::larger_of(self.end, number + 1);
         let count = self.count;
         match count {
             0 => Pending {
@@ -111,7 +64,7 @@ impl Receiver {
             };
         }
         let pending = waiting.with(number, time);
-        let highest = numbers::larger(self.highest, number + 1);
+        let highest = numbers::larger_of(self.highest, number + 1);
         let cause = self.cause_after(number, marked, seen, pending);
         let agreed = self.agreed;
         let limits = self.limits;

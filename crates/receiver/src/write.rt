@@ -1,101 +1,10 @@
-// The write call: an ACK frame of as many newest ranges of the window as fit the lent buffer.
+// The write call: the ACK frame of what was received, and nothing is left to acknowledge.
 ghost use mathlib.Core.Path.{_≡_};
-ghost use mathlib.Core.Bool.{true, false};
-ghost use Prim.Native.Nat.{_-_, _^_, _≤_, _<_};
-ghost use lib.ListN.{length};
-ghost use Rattle.wire.specs.Numbers.{limit};
-ghost use Rattle.wire.specs.Bytes.{splice};
-ghost use Rattle.window.specs.Window.{valueOf, lentValue, runBelow};
-ghost use Rattle.receiver.specs.Record.{seenConsistent};
-ghost use Rattle.receiver.specs.Write.{numberOfRanges, frame, kept, written, writeAnswer, writeBytes};
-use crate::Micros;
+ghost use Rattle.receiver.specs.Write.{written, writeAnswer, writeBytes};
 use crate::Pending;
 use crate::Receiver;
-use crate::Seen;
 use crate::Wrote;
-use crate::numbers;
-use wire::Put;
-
-// A range by its size, and by how many numbers are missing between it and the place above; of size 0 where there is none.
-struct Range {
-    missing: u64,
-    size: u64,
-}
-
-// The newest range below a place of a window's words.
-fn range_below(words: &[u64; 16], place: u64) -> Range
-    ensures { λ r. ⌜ (r .missing ≡ runBelow false place (lentValue (now (words .entry)))) × (r .size ≡ runBelow true (place - runBelow false place (lentValue (now (words .entry)))) (lentValue (now (words .entry)))) ⌝ }
-{
-    let missing = window::run_below(words, place, false);
-    let size = window::run_below(words, place - missing, true);
-    Range { missing, size }
-}
-
-impl Seen {
-    // How many numbers the newest range has: it ends with L, whose place is the last.
-    fn first_size(self) -> u64
-        ensures { λ r. ⌜ r ≡ runBelow true 1024 (valueOf (self .window)) ⌝ }
-    {
-        window::run_below(&self.window.words, 1024, true)
-    }
-
-    // How many of the newest ranges fit the room: 0 where not even the first does, which has `first` numbers.
-    fn kept(self, first: u64, delay: u64, room: usize) -> u64
-        requires { ⌜ (seenConsistent self ≡ true) × (0 < self .end) × (delay ≤ limit) × (room < 2 ^ 63) × (first ≡ runBelow true 1024 (valueOf (self .window))) ⌝ }
-        ensures { λ r. ⌜ r ≡ kept self delay room ⌝ }
-    {
-        // No place below that of number 0 is marked.
-        let none_below = numbers::less(1024, self.end);
-        // The bytes of the frame so far, without its range count.
-        let mut bytes = 1 + wire::width(self.end - 1) + wire::width(delay) + wire::width(first - 1);
-        if room < bytes + 1 {
-            return 0;
-        }
-        let mut count: u64 = 1;
-        let mut low = 1024 - first;
-        while none_below < low {
-            let range = range_below(&self.window.words, low);
-            if range.size == 0 {
-                return count;
-            }
-            bytes = bytes + wire::width(range.missing - 1) + wire::width(range.size - 1);
-            // The range count, now of `count` ranges after the first, may take a byte more.
-            if room < bytes + wire::width(count) {
-                return count;
-            }
-            count += 1;
-            low = low - range.missing - range.size;
-        }
-        count
-    }
-
-    // Writes the frame with the count newest ranges, and answers its length.
-    fn store(self, first: u64, delay: u64, count: u64, buf: &mut [u8]) -> usize
-        requires { ⌜ (seenConsistent self ≡ true) × (0 < self .end) × (delay ≤ limit) × (0 < count) × (count ≤ numberOfRanges self) × (length (frame self delay count) ≤ length (now buf)) × (first ≡ runBelow true 1024 (valueOf (self .window))) ⌝ }
-        ensures { λ r. ⌜ (r ≡ length (frame self delay count)) × (now (buf .exit) ≡ splice (now (buf .entry)) 0 (frame self delay count)) ⌝ }
-    {
-        // Type 02, largest, delay, range count, first range (RFC 9000 19.3).
-        let fields = [2, self.end - 1, delay, count - 1, first - 1];
-        let Put::Done { next } = wire::put_numbers(buf, 0, &fields) else {
-            return 0;
-        };
-        let mut at = next;
-        let mut low = 1024 - first;
-        let mut left = count - 1;
-        while 0 < left {
-            let range = range_below(&self.window.words, low);
-            // Gap and length, each one less than what it counts.
-            let pair = [range.missing - 1, range.size - 1];
-            let Put::Done { next: after } = wire::put_numbers(buf, at, &pair) else {
-                return 0;
-            };
-            at = after;
-            low = low - range.missing - range.size;
-            left -= 1;
-        }
-        at
-    }
-}
+use seen::Micros;
 
 impl Wrote {
     // A refusal's number and the record as it came.
@@ -134,27 +43,18 @@ impl Receiver {
     pub fn write(self, time: Micros, buf: &mut [u8]) -> Wrote
         ensures { λ r. ⌜ (r ≡ writeAnswer self time (now (buf .entry))) × (now (buf .exit) ≡ writeBytes self time (now (buf .entry))) ⌝ }
     {
-        if !self.consistent() {
+        if !self.rest_consistent() {
             return Wrote::refused(1, self);
         }
-        if !numbers::is_small(time.0) {
-            return Wrote::refused(5, self);
-        }
         let seen = self.seen;
-        if seen.end == 0 {
-            return Wrote::refused(8, self);
+        let acked = seen.write_ack(time, buf);
+        if acked.result != 0 {
+            return Wrote::refused(acked.result, self);
         }
-        let delay = numbers::less(time.0, seen.arrived.0) / 8;
-        let first = seen.first_size();
-        let count = seen.kept(first, delay, buf.len());
-        if count == 0 {
-            return Wrote::refused(9, self);
-        }
-        let length = seen.store(first, delay, count, buf);
         let next = self.written();
         Wrote {
             result: 0,
-            length: length as u64,
+            length: acked.length,
             next,
         }
     }

@@ -6,13 +6,14 @@ use mathlib.Core.List.{List, []}
 use native.Mathlib.Omega.{arith}
 use lib.ListN.{length, drop, length-take, length-drop}
 use lib.Seq.{take-all}
-use Rattle.report.specs.Limits.{recordSize}
+use Rattle.entries.specs.Limits.{recordSize}
+use Rattle.entries.specs.Exactly.{Obeys}
+use Rattle.entries.proofs.Exactly.{entries-judged}
 use Rattle.report.specs.Header.{countOf, headerOf}
-use Rattle.report.specs.Reader.{Reading, Whole, Stopped, partOf, judged, reportOf, readReport, entriesIn, entriesOf}
-use Rattle.report.specs.Exactly.{Obeys, Sound}
+use Rattle.report.specs.Reader.{Reading, Whole, Stopped, partOf, reportReading, reportOf, readReport, entriesIn, entriesOf}
+use Rattle.report.specs.Exactly.{Sound}
 use Rattle.report.specs.EachWay.{BothAgree}
 use Rattle.report.proofs.Exactly.{report-reads, sound-judged}
-use Rattle.report.proofs.Places.{entries-judged}
 
 none-refused : (s : List ℕ) (r : Reading) → (reportOf r .refusal ≡ 0 → ⊥) → entriesIn s r ≡ []
 unfolding reportOf entriesIn
@@ -43,4 +44,4 @@ module _ (s : List ℕ) (e : readReport s .refusal ≡ 0) where
       rw (count, n, entries) (take-all (recordSize * countOf (x .ns)) (drop (x .at) s) (rw length-drop (omega (arith, x .end))))
 
 pub both-agree : BothAgree
-both-agree s = record { refused = none-refused s (judged s); many = many s; each = good s; part = part s }
+both-agree s = record { refused = none-refused s (reportReading s); many = many s; each = good s; part = part s }

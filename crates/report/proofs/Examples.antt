@@ -7,10 +7,11 @@ use lib.IntN.{negsuc}
 use lib.ListN.{replicate}
 use Rattle.wire.specs.Fields.{readFixed}
 use Rattle.wire.specs.Numbers.{firstFrom, widthOf, form, encode, encodeAll, allSmall, readForm, readNumber}
+use Rattle.entries.specs.Entries.{entryFrom, entryOf, recordsGood, entriesFault}
+use Rattle.entries.specs.Fitting.{largestWithin}
 use Rattle.report.specs.Header.{judgeLater, judge, faultAfter, headerOf, pairs, numbersOf, emptyHeader}
-use Rattle.report.specs.Entries.{entryFrom, entryOf, recordsGood, entriesFault}
-use Rattle.report.specs.Reader.{numbersFrom, judgeEntries, judged, reportOf, readReport, entriesIn, entriesOf}
-use Rattle.report.specs.Writer.{keptFrom, planned, writeAnswer, storedAs, writeBytes}
+use Rattle.report.specs.Reader.{numbersFrom, judgeEntries, reportReading, reportOf, readReport, entriesIn, entriesOf}
+use Rattle.report.specs.Writer.{planned, writeAnswer, storedAs, writeBytes}
 use Rattle.report.specs.declared.Header.{Header}
 use Rattle.report.specs.declared.Written.the-variants.{Done, Refused}
 
@@ -52,7 +53,7 @@ pub record Examples : Type 0 where
   pub P10-read : (readReport (head ++ (0x03 ∷ three)) ≡ record { refusal = 0; header = sample 3 }) × (entriesOf (head ++ (0x03 ∷ three)) ≡ three)
 
 pub examples : Examples
-unfolding firstFrom widthOf form encode encodeAll allSmall readFixed readForm readNumber judgeLater judge faultAfter headerOf pairs numbersOf emptyHeader entryFrom entryOf recordsGood entriesFault numbersFrom judgeEntries judged reportOf entriesIn keptFrom planned storedAs
+unfolding firstFrom widthOf form encode encodeAll allSmall readFixed readForm readNumber judgeLater judge faultAfter headerOf pairs numbersOf emptyHeader entryFrom entryOf recordsGood entriesFault numbersFrom judgeEntries reportReading reportOf entriesIn largestWithin planned storedAs
 examples = record {
   P9 = (refl, refl);
   P9-read = (refl, refl);

@@ -14,22 +14,25 @@ use Rattle.wire.specs.Fields.{field}
 use Rattle.wire.specs.Numbers.{readNumber}
 use Rattle.wire.specs.declared.Number.{Number}
 use Rattle.wire.specs.declared.Number.the-variants.{Value, Ends}
+use Rattle.wire.specs.Standing.{Stand, none, one}
 use Rattle.wire.proofs.Lengths.{split}
-use Rattle.report.specs.Limits.{mostMetrics, mostNumbers, fixedNumbers}
+use Rattle.wire.proofs.Standing.{stand-last}
+use Rattle.report.specs.Layout.{atMetrics, fixedNumbers}
+use Rattle.report.specs.Limits.{mostMetrics, mostNumbers}
 use Rattle.report.specs.Header.{judge, faultAfter, firstFault, wantedOf}
 use Rattle.report.specs.Reader.{Reading, Whole, Stopped, numbersFrom, readNumbers}
-use Rattle.report.specs.Exactly.{Stand, none, one, Open, Headed, EndsInside, Faulty}
+use Rattle.report.specs.Exactly.{Open, Headed, EndsInside, Faulty}
 
 -- ---- how many numbers are wanted
 
 pub wanted-most : (ns : List ℕ) → wantedOf ns ≤ mostNumbers
-wanted-most ns = omega (arith, min-le-right (getD ns 7 0) mostMetrics)
+wanted-most ns = omega (arith, min-le-right (getD ns atMetrics 0) mostMetrics)
 
 -- a start of numbers that want no fewer than they are wants more than it is
 pub wants-more : (ns us : List ℕ) → 0 < length us → length (ns ++ us) ≤ wantedOf (ns ++ us) → length ns < wantedOf ns
 wants-more ns us p h =
     split fixedNumbers (length ns)
-    (λ l. let e : getD (ns ++ us) 7 0 ≡ getD ns 7 0 = List·getD-append ns us 0 7 (omega arith) in
+    (λ l. let e : getD (ns ++ us) atMetrics 0 ≡ getD ns atMetrics 0 = List·getD-append ns us 0 atMetrics (omega arith) in
     let n : length (ns ++ us) ≡ length ns + length us = length-append ns us in
     omega (arith, rw e at h))
     (λ l. omega arith)
@@ -55,6 +58,19 @@ fault-first ns v vs e = go (eqb (judge ns v) 0) refl e
     go true t e = (eqb-true (judge ns v) 0 t, e)
     go false t e = absurd (eqb-false (judge ns v) 0 t e)
 
+-- each is good after those before it
+pub fault-at : (ns us : List ℕ) (v : ℕ) (vs : List ℕ) → faultAfter ns (us ++ (v ∷ vs)) ≡ 0 → judge (ns ++ us) v ≡ 0
+fault-at ns [] v vs e = rw append-nil (fault-first ns v vs e .0)
+fault-at ns (u ∷ us) v vs e = ap (λ (l : List ℕ). judge l v) (sym (append-assoc ns (u ∷ []) us)) ∙ fault-at (ns ++ (u ∷ [])) us v vs (fault-first ns u (us ++ (v ∷ vs)) e .1)
+
+-- and so are the first of them
+pub fault-start : (ns us vs : List ℕ) → faultAfter ns (us ++ vs) ≡ 0 → faultAfter ns us ≡ 0
+unfolding faultAfter
+fault-start ns [] vs e = refl
+fault-start ns (u ∷ us) vs e =
+    let f = fault-first ns u (us ++ vs) e in
+    rw (f .0) (fault-start (ns ++ (u ∷ [])) us vs (f .1))
+
 pub fault-last : (ns us : List ℕ) (v : ℕ) → faultAfter ns us ≡ 0 → judge (ns ++ us) v ≡ 0 → faultAfter ns (us ++ (v ∷ [])) ≡ 0
 unfolding faultAfter
 fault-last ns us v e j = fault-append ns us (v ∷ []) e ∙ rw j
@@ -66,7 +82,7 @@ module _ (s : List ℕ) where
       → numbersFrom (length vs + n) s at ns ≡ numbersFrom n s to (ns ++ vs)
   unfolding numbersFrom
   follow [] ns n at to none e h = rw (zero-add, append-nil)
-  follow (v ∷ vs) ns n at to (one {next = next} r st) e h =
+  follow (v ∷ vs) ns n at to (one {mid = next} r st) e h =
       let f = fault-first ns v vs e in
       let l : suc (length vs) + n ≡ suc (length vs + n) = omega arith in
       let a : (ns ++ (v ∷ [])) ++ vs ≡ ns ++ (v ∷ vs) = append-assoc ns (v ∷ []) vs in
@@ -76,16 +92,12 @@ module _ (s : List ℕ) where
 
 -- ---- and what was read stands so
 
-pub stand-last : (s : List ℕ) (ns : List ℕ) (from at v next : ℕ) → Stand s from ns at → readNumber s at ≡ Value v next → Stand s from (ns ++ (v ∷ [])) next
-stand-last s [] from at v next none r = one r none
-stand-last s (u ∷ ns) from at v next (one q st) r = one q (stand-last s ns _ at v next st r)
-
 -- one number more wants no fewer
 pub wanted-last : (ns : List ℕ) (v : ℕ) → wantedOf ns ≤ wantedOf (ns ++ (v ∷ []))
 wanted-last ns v =
     split fixedNumbers (length ns)
-    (λ l. let e : getD (ns ++ (v ∷ [])) 7 0 ≡ getD ns 7 0 = List·getD-append ns (v ∷ []) 0 7 (omega arith) in rw e (le-refl (wantedOf ns)))
-    (λ l. let e : getD ns 7 0 ≡ 0 = List·getD-eq-default ns 0 {n = 7} (omega arith) in rw e (omega arith))
+    (λ l. let e : getD (ns ++ (v ∷ [])) atMetrics 0 ≡ getD ns atMetrics 0 = List·getD-append ns (v ∷ []) 0 atMetrics (omega arith) in rw e (le-refl (wantedOf ns)))
+    (λ l. let e : getD ns atMetrics 0 ≡ 0 = List·getD-eq-default ns 0 {n = atMetrics} (omega arith) in rw e (omega arith))
 
 -- where the reading of numbers can end
 pub data End (s : List ℕ) : Reading → Type 0 where
@@ -104,7 +116,7 @@ module _ (s : List ℕ) where
           → End s (pick b (numbersFrom n s next (ns ++ (v ∷ []))) (Stopped (judge ns v)))
       on more o v next r true t =
           let k : length (ns ++ (v ∷ [])) ≡ length ns + 1 = length-append ns (v ∷ []) in
-          more next (ns ++ (v ∷ [])) (omega arith) (stand-last s ns 0 at v next st r) (fault-last [] ns v e (eqb-true (judge ns v) 0 t)) (omega (arith, o .more, wanted-last ns v))
+          more next (ns ++ (v ∷ [])) (omega arith) (stand-last st r) (fault-last [] ns v e (eqb-true (judge ns v) 0 t)) (omega (arith, o .more, wanted-last ns v))
       on more o v next r false t =
           fault (record { ns = ns; at = at; v = v; next = next; far = o; reads = r; fault = refl }) (eqb-false (judge ns v) 0 t)
 

@@ -1,14 +1,13 @@
 pub mod Signed
-pub mod WireLaws
-pub mod Records
+pub mod Rows
 pub mod Whole
-pub mod Keeping
 pub mod Planning
 pub mod Only
 pub mod Examples
 pub mod Following
-pub mod Exactly
 pub mod Places
+pub mod Exactly
+pub mod Sent
 pub mod Back
 pub mod Forth
 pub mod Metrics

@@ -12,14 +12,15 @@ use lib.Dec.{leb, eqb, ltb}
 use lib.ListN.{length, getD, length-append, List·getD-append}
 use lib.Seq.{getD-append-add}
 use Rattle.wire.specs.Bytes.{pick}
+use Rattle.wire.specs.Exactly.{OneOf}
 use Rattle.wire.proofs.Lengths.{split}
-use Rattle.report.specs.Limits.{mostMetrics, fixedNumbers}
+use Rattle.report.specs.Layout.{atLost, atMetrics, fixedNumbers}
+use Rattle.report.specs.Limits.{mostMetrics}
 use Rattle.report.specs.Average.{storedOf}
 use Rattle.report.specs.Header.{knownType, typeRises, judge, judgeLater, faultAfter, firstFault, pairs, numbersOf}
 use Rattle.report.specs.Exactly.{SumHolds, MetricsObey}
 use Rattle.report.specs.declared.Header.{Header}
 use Rattle.report.proofs.Following.{fault-first}
-use Rattle.report.proofs.Exactly.{judge-range}
 use Rattle.report.proofs.Places.{place-judged}
 
 -- from the ninth number on there is no 11
@@ -27,13 +28,13 @@ pub later-range : (ns us : List ℕ) → fixedNumbers ≤ length ns → (faultAf
 unfolding faultAfter
 later-range ns [] h = inl refl
 later-range ns (v ∷ us) h =
-    go (later-range (ns ++ (v ∷ [])) us (omega (arith, length-append ns (v ∷ [])))) (judge-range ns v)
+    go (later-range (ns ++ (v ∷ [])) us (omega (arith, length-append ns (v ∷ [])))) (place-judged ns v .others)
   where
-    go : (faultAfter (ns ++ (v ∷ [])) us ≡ 0) ⊎ (faultAfter (ns ++ (v ∷ [])) us ≡ 10) → (judge ns v ≡ 0) ⊎ ((judge ns v ≡ 10) ⊎ (judge ns v ≡ 11))
+    go : (faultAfter (ns ++ (v ∷ [])) us ≡ 0) ⊎ (faultAfter (ns ++ (v ∷ [])) us ≡ 10) → OneOf (judge ns v) (0 ∷ 10 ∷ 11 ∷ [])
         → (pick (eqb (judge ns v) 0) (faultAfter (ns ++ (v ∷ [])) us) (judge ns v) ≡ 0) ⊎ (pick (eqb (judge ns v) 0) (faultAfter (ns ++ (v ∷ [])) us) (judge ns v) ≡ 10)
     go more (inl e) = rw e more
     go more (inr (inl e)) = inr (rw e)
-    go more (inr (inr e)) = absurd (omega (arith, place-judged ns v .eleven .0 e .place))
+    go more (inr (inr (inl e))) = absurd (omega (arith, place-judged ns v .eleven .0 e .place))
 
 -- ---- one metric: its type is judged, its value is not
 
@@ -41,7 +42,7 @@ module _ (ks vs : List ℕ) where
   -- the metrics before i were read: their numbers, how many there are to be, and the last type
   record Before (ns : List ℕ) (i m : ℕ) : Type 0 where
     count : length ns ≡ fixedNumbers + 2 * i
-    many : getD ns 7 0 ≡ m
+    many : getD ns atMetrics 0 ≡ m
     last : (j : ℕ) → suc j ≡ i → getD ns (length ns - 2) 0 ≡ getD ks j 0
 
   -- what metric i must obey
@@ -54,18 +55,18 @@ module _ (ks vs : List ℕ) where
     unfolding judge judgeLater
     type-judged v =
         rw (
-          ne-eqb (length ns) 5 (λ e. omega (arith, b .count)),
-          ne-eqb (length ns) 7 (λ e. omega (arith, b .count)),
+          ne-eqb (length ns) atLost (λ e. omega (arith, b .count)),
+          ne-eqb (length ns) atMetrics (λ e. omega (arith, b .count)),
           le-ltb (length ns) fixedNumbers (omega (arith, b .count)),
           ne-eqb (length ns % 2) 1 (λ e. omega (arith, b .count)),
-          ne-eqb ((length ns - fixedNumbers) / 2) (getD ns 7 0) (λ e. omega (arith, b .count, b .many)),
+          ne-eqb ((length ns - fixedNumbers) / 2) (getD ns atMetrics 0) (λ e. omega (arith, b .count, b .many)),
         )
 
     value-judged : (u v : ℕ) → judge (ns ++ (u ∷ [])) v ≡ 0
     unfolding judge
     value-judged u v =
         let l : length (ns ++ (u ∷ [])) ≡ fixedNumbers + 2 * i + 1 = rw length-append (omega (arith, b .count)) in
-        rw (ne-eqb (length (ns ++ (u ∷ []))) 5 (λ e. omega arith), ne-eqb (length (ns ++ (u ∷ []))) 7 (λ e. omega arith), le-ltb (length (ns ++ (u ∷ []))) fixedNumbers (omega arith), eq-eqb (length (ns ++ (u ∷ [])) % 2) 1 (omega arith))
+        rw (ne-eqb (length (ns ++ (u ∷ []))) atLost (λ e. omega arith), ne-eqb (length (ns ++ (u ∷ []))) atMetrics (λ e. omega arith), le-ltb (length (ns ++ (u ∷ []))) fixedNumbers (omega arith), eq-eqb (length (ns ++ (u ∷ [])) % 2) 1 (omega arith))
 
     rises-first : i ≡ 0 → (v : ℕ) → typeRises ns v ≡ true
     rises-first z v = rw (eq-eqb (length ns) fixedNumbers (omega (arith, b .count)))
@@ -94,7 +95,7 @@ module _ (ks vs : List ℕ) where
         let a : (ns ++ (u ∷ [])) ++ (v ∷ []) ≡ ns ++ (u ∷ v ∷ []) = append-assoc ns (u ∷ []) (v ∷ []) in
         record {
           count = omega (arith, b .count);
-          many = rw a (List·getD-append ns (u ∷ v ∷ []) 0 7 (omega (arith, b .count)) ∙ b .many);
+          many = rw a (List·getD-append ns (u ∷ v ∷ []) 0 atMetrics (omega (arith, b .count)) ∙ b .many);
           last = λ j f. let n : length ((ns ++ (u ∷ [])) ++ (v ∷ [])) - 2 ≡ length ns + 0 = omega arith in
               let q : i ≡ j = omega arith in
               rw (n, a) (getD-append-add ns (u ∷ v ∷ []) 0 0 ∙ e ∙ ap (λ (x : ℕ). getD ks x 0) q);

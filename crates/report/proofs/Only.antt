@@ -10,12 +10,8 @@ use Rattle.report.proofs.reader.read_report.Reads as read-report
 use Rattle.report.proofs.reader.read_report.Kinds as read-report-kinds
 use Rattle.report.proofs.reader.entries_of.Reads as entries-of
 use Rattle.report.proofs.reader.entries_of.Kinds as entries-of-kinds
-use Rattle.report.proofs.entries.read_entry.Reads as read-entry
-use Rattle.report.proofs.entries.read_entry.Kinds as read-entry-kinds
 use Rattle.report.proofs.writer.write_report.Reads as write-report
 use Rattle.report.proofs.writer.write_report.Kinds as write-report-kinds
-use Rattle.report.proofs.Entry.refusal.Reads as entry-refusal
-use Rattle.report.proofs.Entry.refusal.Kinds as entry-refusal-kinds
 use Rattle.report.proofs.Written.refusal.Reads as written-refusal
 use Rattle.report.proofs.Written.refusal.Kinds as written-refusal-kinds
 
@@ -27,14 +23,8 @@ pub entries-of-one : (κs : Lfts 1) (given : Dens κs entries-of-kinds.ps) (x y 
     → entries-of.Post κs given x s → entries-of.Post κs given y t → now x ≡ now y
 entries-of-one κs given x y s t p q = p ∙ sym q
 
-pub read-entry-one : OneAnswer 1 read-entry-kinds.ps read-entry-kinds.r read-entry.Post
-read-entry-one κs given x y s t p q = p ∙ sym q
-
 pub write-report-one : OneBuffer 2 write-report-kinds.ps write-report-kinds.r (λ κs s. now (s .0)) write-report.Post
 write-report-one κs given x y s t p q = (p .0 ∙ sym (q .0), p .1 ∙ sym (q .1))
-
-pub entry-refusal-one : OneAnswer 0 entry-refusal-kinds.ps entry-refusal-kinds.r entry-refusal.Post
-entry-refusal-one κs given x y s t p q = p ∙ sym q
 
 pub written-refusal-one : OneAnswer 0 written-refusal-kinds.ps written-refusal-kinds.r written-refusal.Post
 written-refusal-one κs given x y s t p q = p ∙ sym q

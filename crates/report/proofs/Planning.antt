@@ -1,27 +1,29 @@
 -- The writer: what each of its judgements answers, what an accepted plan says, and what the stored bytes are.
 -- Assumes nothing.
-use Prim.Native.Nat.{ℕ, _+_, _-_, _*_, _/_, _≤_, _<_, min}
+use Prim.Native.Nat.{ℕ, _+_, _-_, _*_, _/_, _≤_, _<_}
 use mathlib.Core.Path.{_≡_, refl, sym, ap, _∙_}
 use mathlib.Core.Bool.{Bool, true, false}
-use mathlib.Core.List.{List, [], _∷_, _++_}
-use native.Mathlib.Nat.{min-le-left, min-le-right}
+use mathlib.Core.List.{List, [], _∷_, _++_, append-nil}
 use native.Mathlib.Numerals.{add-one}
 use native.Mathlib.Omega.{arith}
 use borrow.Author.Tests.{le-leb, lt-leb, ne-eqb, leb-true, eqb-true}
 use lib.Dec.{leb, eqb}
-use lib.ListN.{length, take, drop, set, length-drop}
+use lib.ListN.{length, take, drop, set, length-append, length-drop}
 use lib.Seq.{take-suc-set, take-all}
 use Rattle.wire.specs.Bytes.{pick, splice}
-use Rattle.wire.specs.Numbers.{widthOf, encodeAll, allSmall}
-use Rattle.report.specs.Limits.{recordSize, mostEntries}
+use Rattle.wire.specs.Numbers.{limit, widthOf, encodeAll, allSmall}
+use Rattle.wire.proofs.Small.{all-small, small-append}
+use Rattle.wire.proofs.Writing.{length-encode, encode-append}
+use Rattle.entries.specs.Limits.{recordSize, mostEntries}
+use Rattle.entries.specs.Entries.{entriesFault}
+use Rattle.entries.specs.Fitting.{sizeOf, fittingOf, lastOf}
+use Rattle.entries.specs.Exactly.{Longest}
+use Rattle.entries.proofs.Largest.{size-none, records-fit}
 use Rattle.report.specs.Header.{firstFault, numbersOf}
-use Rattle.report.specs.Entries.{entriesFault}
-use Rattle.report.specs.Writer.{sizeOf, keptFrom, keptOf, planned, writeAnswer, reportBytes, storedAs, writeBytes}
+use Rattle.report.specs.Writer.{reportSize, keptOf, planned, writeAnswer, reportBytes, storedAs, writeBytes}
 use Rattle.report.specs.declared.Header.{Header}
 use Rattle.report.specs.declared.Written.{Written}
 use Rattle.report.specs.declared.Written.the-variants.{Done, Refused}
-use Rattle.report.proofs.Keeping.{width-zero-one, kept-most, kept-fits}
-use Rattle.report.proofs.WireLaws.{length-last, small-last}
 
 -- ---- each judgement in its turn
 
@@ -43,50 +45,58 @@ module _ (ns entries : List ℕ) (room : ℕ) where
       module _ (y : entriesFault entries ≡ 0) where
         pub plan-room : room ≤ length (encodeAll ns) → Refused 9 ≡ planned ns entries room
         unfolding planned
-        plan-room h = rw (s, z, y, lt-leb (sizeOf (length (encodeAll ns)) 0) room (omega (arith, width-zero-one)))
+        plan-room h = rw (s, z, y, lt-leb (reportSize (length (encodeAll ns)) 0) room (omega (arith, size-none)))
 
-        pub plan-done : (head most k w : ℕ) → head ≡ length (encodeAll ns) → head < room → most ≡ min (length entries / recordSize) mostEntries → k ≡ keptFrom head room most → w ≡ widthOf k
+        pub plan-done : (head k w : ℕ) → head ≡ length (encodeAll ns) → head < room → k ≡ fittingOf (length entries / recordSize) (room - head) → w ≡ widthOf k
             → Done (head + w + recordSize * k) k ≡ planned ns entries room
         unfolding planned
-        plan-done head most k w e h m f g =
-            let l : sizeOf head 0 ≤ room = omega (arith, width-zero-one) in
-            rw (s, z, y, ← e, ← m, ← f, ← g, le-leb (sizeOf head 0) room l)
+        plan-done head k w e h f g =
+            let l : reportSize head 0 ≤ room = omega (arith, size-none) in
+            let n : head + w + recordSize * k ≡ reportSize head k = omega arith in
+            rw (n, s, z, y, ← e, ← f, le-leb (reportSize head 0) room l)
 
 -- the code's sum stays within the room
-pub plan-fits : (head room most k w : ℕ) → head < room → k ≡ keptFrom head room most → w ≡ widthOf k → head + w + recordSize * k ≤ room
-plan-fits head room most k w h f g = rw (g, f) (kept-fits head room most (omega (arith, width-zero-one)))
+pub plan-fits : (head room n k w : ℕ) → head < room → k ≡ fittingOf n (room - head) → w ≡ widthOf k → head + w + recordSize * k ≤ room
+plan-fits head room n k w h f g =
+    let q : sizeOf k ≤ room - head = rw f (records-fit n (room - head) .fits (omega (arith, size-none))) in
+    omega arith
 
 -- ---- what an accepted plan says
+
+-- one number more behind the others
+pub length-last : (vs : List ℕ) (v : ℕ) → v ≤ limit → length (encodeAll (vs ++ (v ∷ []))) ≡ length (encodeAll vs) + widthOf v
+unfolding encodeAll
+length-last vs v h = rw (encode-append, append-nil, length-append, length-encode v h)
 
 pub record Accepted (ns entries : List ℕ) (room next kept : ℕ) : Type 0 where
   pub small : allSmall ns ≡ true
   pub fault : firstFault ns ≡ 0
   pub good : entriesFault entries ≡ 0
-  pub least : sizeOf (length (encodeAll ns)) 0 ≤ room
+  pub least : reportSize (length (encodeAll ns)) 0 ≤ room
   pub many : kept ≡ keptOf ns entries room
-  pub size : next ≡ sizeOf (length (encodeAll ns)) kept
+  pub size : next ≡ reportSize (length (encodeAll ns)) kept
 
 pub plan-accepted : (ns entries : List ℕ) (room next kept : ℕ) → Done next kept ≡ planned ns entries room → Accepted ns entries room next kept
 unfolding planned
 plan-accepted ns entries room next kept e =
-    go (allSmall ns) (eqb (firstFault ns) 0) (eqb (entriesFault entries) 0) (leb (sizeOf (length (encodeAll ns)) 0) room) refl refl refl refl e
+    go (allSmall ns) (eqb (firstFault ns) 0) (eqb (entriesFault entries) 0) (leb (reportSize (length (encodeAll ns)) 0) room) refl refl refl refl e
   where
     k : ℕ
     k = keptOf ns entries room
 
-    go : (a b c d : Bool) → allSmall ns ≡ a → eqb (firstFault ns) 0 ≡ b → eqb (entriesFault entries) 0 ≡ c → leb (sizeOf (length (encodeAll ns)) 0) room ≡ d
-        → Done next kept ≡ pick a (pick b (pick c (pick d (Done (sizeOf (length (encodeAll ns)) k) k) (Refused 9)) (Refused (entriesFault entries))) (Refused (firstFault ns))) (Refused 5)
+    go : (a b c d : Bool) → allSmall ns ≡ a → eqb (firstFault ns) 0 ≡ b → eqb (entriesFault entries) 0 ≡ c → leb (reportSize (length (encodeAll ns)) 0) room ≡ d
+        → Done next kept ≡ pick a (pick b (pick c (pick d (Done (reportSize (length (encodeAll ns)) k) k) (Refused 9)) (Refused (entriesFault entries))) (Refused (firstFault ns))) (Refused 5)
         → Accepted ns entries room next kept
     go true true true true p q r t e =
         let m : kept ≡ k = cc in
-        let n : next ≡ sizeOf (length (encodeAll ns)) k = cc in
+        let n : next ≡ reportSize (length (encodeAll ns)) k = cc in
         record {
           small = p;
           fault = eqb-true (firstFault ns) 0 q;
           good = eqb-true (entriesFault entries) 0 r;
-          least = leb-true (sizeOf (length (encodeAll ns)) 0) room t;
+          least = leb-true (reportSize (length (encodeAll ns)) 0) room t;
           many = m;
-          size = n ∙ ap (sizeOf (length (encodeAll ns))) (sym m);
+          size = n ∙ ap (reportSize (length (encodeAll ns))) (sym m);
         }
     go true true true false p q r t e = let z : _≡_ {A = ℕ} 0 1 = cc in absurd (omega arith)
     go true true false d p q r t e = let z : _≡_ {A = ℕ} 0 1 = cc in absurd (omega arith)
@@ -94,25 +104,28 @@ plan-accepted ns entries room next kept e =
     go false b c d p q r t e = let z : _≡_ {A = ℕ} 0 1 = cc in absurd (omega arith)
 
 module _ {ns entries : List ℕ} {room next kept : ℕ} (a : Accepted ns entries room next kept) where
-  most : kept ≤ min (length entries / recordSize) mostEntries
-  most = rw (a .many) (kept-most (length (encodeAll ns)) room (min (length entries / recordSize) mostEntries))
+  run : Longest (length entries / recordSize) (room - length (encodeAll ns)) kept
+  run = rw (a .many) (records-fit (length entries / recordSize) (room - length (encodeAll ns)))
 
   pub kept-given : recordSize * kept ≤ length entries
-  kept-given = omega (arith, most, min-le-left (length entries / recordSize) mostEntries)
+  kept-given = omega (arith, run .given)
 
   pub kept-limit : kept ≤ mostEntries
-  kept-limit = omega (arith, most, min-le-right (length entries / recordSize) mostEntries)
+  kept-limit = run .limit
+
+  pub kept-longest : (k : ℕ) → k ≤ mostEntries → recordSize * k ≤ length entries → reportSize (length (encodeAll ns)) k ≤ room → k ≤ kept
+  kept-longest k m g f = run .longest k m (omega arith) (omega arith)
 
   pub fits-room : next ≤ room
-  fits-room = rw (a .size, a .many) (kept-fits (length (encodeAll ns)) room (min (length entries / recordSize) mostEntries) (a .least))
+  fits-room = omega (arith, a .size, a .least, run .fits (omega (arith, a .least)))
 
   pub numbers-small : allSmall (ns ++ (kept ∷ [])) ≡ true
-  numbers-small = small-last ns kept (a .small) (omega (arith, kept-limit))
+  numbers-small = all-small (ns ++ (kept ∷ [])) .1 (small-append ns (kept ∷ []) .1 (all-small ns .0 (a .small), (omega (arith, kept-limit), tt)))
 
   pub head-size : length (encodeAll (ns ++ (kept ∷ []))) ≡ next - recordSize * kept
   head-size = length-last ns kept (omega (arith, kept-limit)) ∙ omega (arith, a .size)
 
-  pub records-size : length (drop (length entries - recordSize * kept) entries) ≡ recordSize * kept
+  pub records-size : length (lastOf entries kept) ≡ recordSize * kept
   records-size = rw length-drop (omega (arith, kept-given))
 
 -- ---- the code's arrays and parts

@@ -14,11 +14,12 @@ use Rattle.wire.specs.Bytes.{pick}
 use Rattle.wire.specs.Fields.{field}
 use Rattle.wire.specs.Numbers.{readNumber}
 use Rattle.wire.specs.declared.Number.the-variants.{Value, Ends}
-use Rattle.report.specs.Limits.{recordSize, mostNumbers}
+use Rattle.entries.specs.Limits.{recordSize}
+use Rattle.report.specs.Limits.{mostNumbers}
 use Rattle.report.specs.Header.{judge, wantedOf, countOf, headerOf, emptyHeader}
-use Rattle.report.specs.Entries.{entriesGood}
-use Rattle.report.specs.Reader.{Reading, Whole, Stopped, numbersFrom, readNumbers, partOf, judgeEntries, judged, reportOf, readReport, entriesIn, entriesOf, foundOf}
-use Rattle.report.specs.declared.Found.{Found}
+use Rattle.entries.specs.Entries.{entriesGood}
+use Rattle.report.specs.Reader.{Reading, Whole, Stopped, numbersFrom, readNumbers, partOf, judgeEntries, reportReading, reportOf, readReport, entriesIn, entriesOf, readingOf}
+use Rattle.report.specs.declared.NumbersRead.{NumbersRead}
 
 -- ---- the numbers so far are the first count of an array
 
@@ -58,58 +59,58 @@ full-now s numbers at count R h inv = let e : mostNumbers - count ≡ 0 = omega 
 
 -- ---- what the code's own answer holds
 
-pub found-whole : (f : Found) → f .refusal ≡ 0 → foundOf f ≡ Whole (take (f .count) (f .numbers)) (f .next)
-unfolding foundOf
+pub found-whole : (f : NumbersRead) → f .refusal ≡ 0 → readingOf f ≡ Whole (take (f .count) (f .numbers)) (f .next)
+unfolding readingOf
 found-whole f z = rw (eq-eqb (f .refusal) 0 z)
 
-pub found-stopped : (f : Found) (n : ℕ) → f .refusal ≡ n → (n ≡ 0 → ⊥) → foundOf f ≡ Stopped n
-unfolding foundOf
+pub found-stopped : (f : NumbersRead) (n : ℕ) → f .refusal ≡ n → (n ≡ 0 → ⊥) → readingOf f ≡ Stopped n
+unfolding readingOf
 found-stopped f n e z = rw (ne-eqb (f .refusal) 0 (λ t. z (sym e ∙ t)), e)
 
 -- ---- after the numbers
 
-pub stopped-judged : (s : List ℕ) (f : Found) → (f .refusal ≡ 0 → ⊥) → foundOf f ≡ readNumbers s → foundOf f ≡ judged s
-unfolding judged judgeEntries
+pub stopped-judged : (s : List ℕ) (f : NumbersRead) → (f .refusal ≡ 0 → ⊥) → readingOf f ≡ readNumbers s → readingOf f ≡ reportReading s
+unfolding reportReading judgeEntries
 stopped-judged s f n e =
     let t : Stopped (f .refusal) ≡ readNumbers s = sym (found-stopped f (f .refusal) refl n) ∙ e in
     found-stopped f (f .refusal) refl n ∙ ap (judgeEntries s) t
 
-module _ (s : List ℕ) (f : Found) (z : f .refusal ≡ 0) (e : foundOf f ≡ readNumbers s) (k : ℕ) (c : k ≡ countOf (take (f .count) (f .numbers))) where
+module _ (s : List ℕ) (f : NumbersRead) (z : f .refusal ≡ 0) (e : readingOf f ≡ readNumbers s) (k : ℕ) (c : k ≡ countOf (take (f .count) (f .numbers))) where
   abbrev ns : List ℕ
   ns = take (f .count) (f .numbers)
 
-  after : judged s ≡ judgeEntries s (Whole ns (f .next))
-  unfolding judged
+  after : reportReading s ≡ judgeEntries s (Whole ns (f .next))
+  unfolding reportReading
   after = ap (judgeEntries s) (sym e ∙ found-whole f z)
 
-  pub too-few : length s < f .next + recordSize * k → Stopped 2 ≡ judged s
+  pub too-few : length s < f .next + recordSize * k → Stopped 2 ≡ reportReading s
   unfolding judgeEntries
   too-few h = rw (after, ← c, lt-leb (f .next + recordSize * k) (length s) h)
 
   module _ (h : f .next + recordSize * k ≤ length s) where
-    pub broken : false ≡ entriesGood (take (recordSize * k) (drop (f .next) s)) → Stopped 12 ≡ judged s
+    pub broken : false ≡ entriesGood (take (recordSize * k) (drop (f .next) s)) → Stopped 12 ≡ reportReading s
     unfolding judgeEntries
     broken g = rw (after, ← c, le-leb (f .next + recordSize * k) (length s) h, ← g)
 
-    pub behind : true ≡ entriesGood (take (recordSize * k) (drop (f .next) s)) → f .next + recordSize * k < length s → Stopped 13 ≡ judged s
+    pub behind : true ≡ entriesGood (take (recordSize * k) (drop (f .next) s)) → f .next + recordSize * k < length s → Stopped 13 ≡ reportReading s
     unfolding judgeEntries
     behind g l = rw (after, ← c, le-leb (f .next + recordSize * k) (length s) h, ← g, ne-eqb (f .next + recordSize * k) (length s) (λ q. omega arith))
 
-    pub accepted : true ≡ entriesGood (take (recordSize * k) (drop (f .next) s)) → length s ≤ f .next + recordSize * k → foundOf f ≡ judged s
+    pub accepted : true ≡ entriesGood (take (recordSize * k) (drop (f .next) s)) → length s ≤ f .next + recordSize * k → readingOf f ≡ reportReading s
     unfolding judgeEntries
     accepted g l = found-whole f z ∙ rw (after, ← c, le-leb (f .next + recordSize * k) (length s) h, ← g, eq-eqb (f .next + recordSize * k) (length s) (omega arith))
 
 -- ---- what reader and companion answer
 
-pub report-stopped : (s : List ℕ) (f : Found) → (f .refusal ≡ 0 → ⊥) → foundOf f ≡ judged s → record { refusal = f .refusal; header = emptyHeader } ≡ readReport s
+pub report-stopped : (s : List ℕ) (f : NumbersRead) → (f .refusal ≡ 0 → ⊥) → readingOf f ≡ reportReading s → record { refusal = f .refusal; header = emptyHeader } ≡ readReport s
 unfolding reportOf
 report-stopped s f n e = ap reportOf (sym (found-stopped f (f .refusal) refl n) ∙ e)
 
-pub report-whole : (s : List ℕ) (f : Found) → f .refusal ≡ 0 → foundOf f ≡ judged s → record { refusal = f .refusal; header = headerOf (take (f .count) (f .numbers)) } ≡ readReport s
+pub report-whole : (s : List ℕ) (f : NumbersRead) → f .refusal ≡ 0 → readingOf f ≡ reportReading s → record { refusal = f .refusal; header = headerOf (take (f .count) (f .numbers)) } ≡ readReport s
 unfolding reportOf
 report-whole s f z e = rw z (ap reportOf (sym (found-whole f z) ∙ e))
 
-pub none-stopped : (s : List ℕ) (f : Found) → (f .refusal ≡ 0 → ⊥) → foundOf f ≡ judged s → [] ≡ entriesOf s
+pub none-stopped : (s : List ℕ) (f : NumbersRead) → (f .refusal ≡ 0 → ⊥) → readingOf f ≡ reportReading s → [] ≡ entriesOf s
 unfolding entriesIn
 none-stopped s f n e = ap (entriesIn s) (sym (found-stopped f (f .refusal) refl n) ∙ e)
 
@@ -119,8 +120,8 @@ pub record Judged (s ns : List ℕ) (at : ℕ) : Type 0 where
   pub good : entriesGood (partOf s ns at) ≡ true
   pub end : at + recordSize * countOf ns ≡ length s
 
-pub judged-whole : (s ns : List ℕ) (at : ℕ) → Whole ns at ≡ judged s → Judged s ns at
-unfolding judged judgeEntries
+pub judged-whole : (s ns : List ℕ) (at : ℕ) → Whole ns at ≡ reportReading s → Judged s ns at
+unfolding reportReading judgeEntries
 judged-whole s ns at e = by (readNumbers s) refl e
   where
     by : (r : Reading) → readNumbers s ≡ r → Whole ns at ≡ judgeEntries s r → Judged s ns at
@@ -136,10 +137,10 @@ judged-whole s ns at e = by (readNumbers s) refl e
         go true false c g t e = let q : _≡_ {A = ℕ} 0 1 = cc in absurd (omega arith)
         go false b c g t e = let q : _≡_ {A = ℕ} 0 1 = cc in absurd (omega arith)
 
-pub part-whole : (s : List ℕ) (f : Found) → f .refusal ≡ 0 → foundOf f ≡ judged s → take (length s - f .next) (drop (f .next) s) ≡ entriesOf s
+pub part-whole : (s : List ℕ) (f : NumbersRead) → f .refusal ≡ 0 → readingOf f ≡ reportReading s → take (length s - f .next) (drop (f .next) s) ≡ entriesOf s
 unfolding entriesIn
 part-whole s f z e =
-    let w : Whole (take (f .count) (f .numbers)) (f .next) ≡ judged s = sym (found-whole f z) ∙ e in
+    let w : Whole (take (f .count) (f .numbers)) (f .next) ≡ reportReading s = sym (found-whole f z) ∙ e in
     let l = judged-whole s (take (f .count) (f .numbers)) (f .next) w .end in
     let m : length s - f .next ≡ recordSize * countOf (take (f .count) (f .numbers)) = omega arith in
     rw m (ap (entriesIn s) w)

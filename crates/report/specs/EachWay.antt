@@ -6,11 +6,13 @@ use lib.Dec.{ltb}
 use lib.ListN.{length, getD, take, drop}
 use Rattle.wire.specs.Bytes.{pick}
 use Rattle.wire.specs.Numbers.{encodeAll}
-use Rattle.report.specs.Limits.{recordSize, mostMetrics, mostEntries}
+use Rattle.entries.specs.Limits.{recordSize, mostEntries}
+use Rattle.entries.specs.Fitting.{lastOf}
+use Rattle.entries.specs.Exactly.{Obeys}
+use Rattle.report.specs.Limits.{mostMetrics}
 use Rattle.report.specs.Header.{each, countOf, headerOf, numbersOf}
-use Rattle.report.specs.Reader.{Whole, judged, readReport, entriesOf}
-use Rattle.report.specs.Writer.{sizeOf, writeAnswer, writeBytes}
-use Rattle.report.specs.Exactly.{Obeys}
+use Rattle.report.specs.Reader.{Whole, reportReading, readReport, entriesOf}
+use Rattle.report.specs.Writer.{reportSize, writeAnswer, writeBytes}
 use Rattle.report.specs.declared.Header.{Header}
 use Rattle.report.specs.declared.Written.the-variants.{Done}
 
@@ -30,10 +32,6 @@ sentAs h k = record {
   entries = k;
 }
 
--- the last k records
-abbrev pub lastOf : List ℕ → ℕ → List ℕ
-lastOf entries k = drop (length entries - recordSize * k) entries
-
 -- what was written, read again: the header, and exactly the records that were kept
 pub record ReadsBack (h : Header) (entries written : List ℕ) (next kept : ℕ) : Type 0 where
   pub header : readReport (take next written) ≡ record { refusal = 0; header = sentAs h kept }
@@ -46,9 +44,9 @@ WriteRead = (h : Header) (entries xs : List ℕ) (next kept : ℕ) → Done next
 pub record Keeps (h : Header) (entries xs : List ℕ) (next kept : ℕ) : Type 0 where
   pub limit : kept ≤ mostEntries
   pub given : recordSize * kept ≤ length entries
-  pub size : next ≡ sizeOf (length (encodeAll (numbersOf h))) kept
+  pub size : next ≡ reportSize (length (encodeAll (numbersOf h))) kept
   pub fits : next ≤ length xs
-  pub longest : (k : ℕ) → k ≤ mostEntries → recordSize * k ≤ length entries → sizeOf (length (encodeAll (numbersOf h))) k ≤ length xs → k ≤ kept
+  pub longest : (k : ℕ) → k ≤ mostEntries → recordSize * k ≤ length entries → reportSize (length (encodeAll (numbersOf h))) k ≤ length xs → k ≤ kept
   pub stay : drop next (writeBytes h entries xs) ≡ drop next xs
 
 abbrev pub WriteKeeps : Type 0
@@ -61,7 +59,7 @@ pub record WritesBack (s ns xs : List ℕ) : Type 0 where
 
 -- its elements are bytes, and its numbers are in shortest form: they take no more bytes than the shortest forms
 abbrev pub ReadWrite : Type 0
-ReadWrite = (s ns xs : List ℕ) (at : ℕ) → ((i : ℕ) → getD s i 0 < 256) → Whole ns at ≡ judged s → at ≡ length (encodeAll ns) → length s ≤ length xs → WritesBack s ns xs
+ReadWrite = (s ns xs : List ℕ) (at : ℕ) → ((i : ℕ) → getD s i 0 < 256) → Whole ns at ≡ reportReading s → at ≡ length (encodeAll ns) → length s ≤ length xs → WritesBack s ns xs
 
 -- reader and companion agree: both refuse together, and of an accepted report the part holds as many records as the header says, each of them good
 pub record Agree (s : List ℕ) : Type 0 where

@@ -1,4 +1,4 @@
--- The rows of the refusal table for reports: each number is given exactly when its row says, the first fault first.
+-- The rows of the refusal table for reports: each number is given exactly when its row says, the first fault first, and no other number is.
 use Prim.Native.Nat.{ℕ, suc, _+_, _-_, _*_, _/_, _%_, _≤_, _<_}
 use mathlib.Core.Path.{_≡_}
 use mathlib.Core.Logic.{_↔_, _⊎_}
@@ -6,24 +6,21 @@ use mathlib.Core.Bool.{true, false}
 use mathlib.Core.List.{List, [], _∷_}
 use lib.ListN.{length, getD}
 use Rattle.wire.specs.Numbers.{readNumber, encodeAll}
-use Rattle.wire.specs.Exactly.{Small}
+use Rattle.wire.specs.Standing.{Stand}
+use Rattle.wire.specs.Exactly.{OneOf, Small}
 use Rattle.wire.specs.declared.Number.the-variants.{Value, Ends}
-use Rattle.report.specs.Limits.{recordSize, mostMetrics, mostEntries, mostGiven, fixedNumbers}
+use Rattle.entries.specs.Limits.{recordSize, mostEntries}
+use Rattle.entries.specs.Entries.{entriesGood}
+use Rattle.entries.specs.Exactly.{RecordsPass, Ragged, TooMany, BadRecord}
+use Rattle.report.specs.Layout.{atTotal, atReceived, atLate, atLost, atMetrics, fixedNumbers}
+use Rattle.report.specs.Limits.{mostMetrics}
 use Rattle.report.specs.Header.{knownType, typeRises, judge, firstFault, wantedOf, countOf, numbersOf}
-use Rattle.report.specs.Entries.{objectOf, recordAt, entryAt, entriesGood}
 use Rattle.report.specs.Reader.{partOf, readReport}
-use Rattle.report.specs.Writer.{sizeOf, writeAnswer, writeBytes}
+use Rattle.report.specs.Writer.{reportSize, writeAnswer, writeBytes}
 use Rattle.report.specs.Refusals.{writtenRefusal}
 use Rattle.report.specs.declared.Header.{Header}
-use Rattle.report.specs.declared.Status.{Status}
-use Rattle.report.specs.declared.Entry.the-variants.{Record}
 
 -- ---- the reader
-
--- the numbers vs stand one after the other from the place at up to the place to
-pub data Stand (s : List ℕ) : ℕ → List ℕ → ℕ → Type 0 where
-  none : {at : ℕ} → Stand s at [] at
-  one : {at next to v : ℕ} {vs : List ℕ} → readNumber s at ≡ Value v next → Stand s next vs to → Stand s at (v ∷ vs) to
 
 -- the numbers ns were read, none brought a refusal, and more are wanted
 pub record Open (s ns : List ℕ) (at : ℕ) : Type 0 where
@@ -92,7 +89,7 @@ pub record ReaderRows (s : List ℕ) (refusal : ℕ) : Type 0 where
   pub twelve : refusal ≡ 12 ↔ BadEntry s
   pub thirteen : refusal ≡ 13 ↔ Behind s
   pub accepted : refusal ≡ 0 ↔ Sound s
-  pub never : refusal ≡ 5 → ⊥
+  pub others : OneOf refusal (0 ∷ 2 ∷ 10 ∷ 11 ∷ 12 ∷ 13 ∷ [])
 
 abbrev pub ReportReads : Type 0
 ReportReads = (s : List ℕ) → ReaderRows s (readReport s .refusal)
@@ -101,12 +98,12 @@ ReportReads = (s : List ℕ) → ReaderRows s (readReport s .refusal)
 
 -- 11: v is lost, and "total differs from received + late + lost"
 pub record SumBroken (ns : List ℕ) (v : ℕ) : Type 0 where
-  pub place : length ns ≡ 5
-  pub differs : getD ns 2 0 ≡ getD ns 3 0 + getD ns 4 0 + v → ⊥
+  pub place : length ns ≡ atLost
+  pub differs : getD ns atTotal 0 ≡ getD ns atReceived 0 + getD ns atLate 0 + v → ⊥
 
 -- 10: v is the metric count, and above the limit
 pub record CountBroken (ns : List ℕ) (v : ℕ) : Type 0 where
-  pub place : length ns ≡ 7
+  pub place : length ns ≡ atMetrics
   pub above : mostMetrics < v
 
 -- a type or the entry count stands there, and not a value
@@ -117,34 +114,22 @@ pub record Later (ns : List ℕ) : Type 0 where
 -- 10: v is a type, and no known one or not above the one before it
 pub record TypeBroken (ns : List ℕ) (v : ℕ) : Type 0 where
   pub place : Later ns
-  pub metric : (length ns - fixedNumbers) / 2 ≡ getD ns 7 0 → ⊥
+  pub metric : (length ns - fixedNumbers) / 2 ≡ getD ns atMetrics 0 → ⊥
   pub broken : (knownType v ≡ true) × (typeRises ns v ≡ true) → ⊥
 
 -- 10: v is the entry count, and above the limit
 pub record EntriesBroken (ns : List ℕ) (v : ℕ) : Type 0 where
   pub place : Later ns
-  pub last : (length ns - fixedNumbers) / 2 ≡ getD ns 7 0
+  pub last : (length ns - fixedNumbers) / 2 ≡ getD ns atMetrics 0
   pub above : mostEntries < v
 
 pub record PlaceRows (ns : List ℕ) (v : ℕ) : Type 0 where
   pub eleven : judge ns v ≡ 11 ↔ SumBroken ns v
   pub ten : judge ns v ≡ 10 ↔ (CountBroken ns v ⊎ (TypeBroken ns v ⊎ EntriesBroken ns v))
+  pub others : OneOf (judge ns v) (0 ∷ 10 ∷ 11 ∷ [])
 
 abbrev pub PlaceJudged : Type 0
 PlaceJudged = (ns : List ℕ) (v : ℕ) → PlaceRows ns v
-
--- ---- what a record must obey: it is an entry, and its object number is above its forerunner's
-
-pub record Obeys (s : List ℕ) (i : ℕ) : Type 0 where
-  pub object : ℕ
-  pub status : Status
-  pub age : ℕ
-  pub entry : entryAt s i ≡ Record object status age
-  pub rises : (j : ℕ) → suc j ≡ i → objectOf (recordAt s j) < object
-
--- 12 is for a record that does not obey
-abbrev pub EntriesJudged : Type 0
-EntriesJudged = (s : List ℕ) → entriesGood s ≡ true ↔ ((i : ℕ) → i < length s / recordSize → Obeys s i)
 
 -- ---- the writer
 
@@ -167,9 +152,7 @@ pub record HeaderPasses (h : Header) : Type 0 where
 -- and so do the records
 pub record Passes (h : Header) (entries : List ℕ) : Type 0 where
   pub header : HeaderPasses h
-  pub even : length entries % recordSize ≡ 0
-  pub few : length entries / recordSize ≤ mostGiven
-  pub good : entriesGood entries ≡ true
+  pub records : RecordsPass entries
 
 -- 10: the metrics break their rule
 pub record MetricsBroken (h : Header) : Type 0 where
@@ -177,31 +160,14 @@ pub record MetricsBroken (h : Header) : Type 0 where
   pub sum : SumHolds h
   pub broken : MetricsObey h → ⊥
 
--- 10: more than 256 records
-pub record TooMany (h : Header) (entries : List ℕ) : Type 0 where
-  pub header : HeaderPasses h
-  pub even : length entries % recordSize ≡ 0
-  pub many : mostGiven < length entries / recordSize
-
--- 12: a length that is no multiple of 16
-pub record Ragged (h : Header) (entries : List ℕ) : Type 0 where
-  pub header : HeaderPasses h
-  pub ragged : length entries % recordSize ≡ 0 → ⊥
-
--- 12: a record that breaks its rule
-pub record BadRecord (h : Header) (entries : List ℕ) : Type 0 where
-  pub header : HeaderPasses h
-  pub even : length entries % recordSize ≡ 0
-  pub few : length entries / recordSize ≤ mostGiven
-  pub bad : entriesGood entries ≡ false
-
 pub record WriterRows (h : Header) (entries : List ℕ) (room refusal : ℕ) : Type 0 where
   pub five : refusal ≡ 5 ↔ (Small (numbersOf h) → ⊥)
   pub eleven : refusal ≡ 11 ↔ (Small (numbersOf h) × (SumHolds h → ⊥))
-  pub ten : refusal ≡ 10 ↔ (MetricsBroken h ⊎ TooMany h entries)
-  pub twelve : refusal ≡ 12 ↔ (Ragged h entries ⊎ BadRecord h entries)
-  pub nine : refusal ≡ 9 ↔ (Passes h entries × (room < sizeOf (length (encodeAll (numbersOf h))) 0))
-  pub accepted : refusal ≡ 0 ↔ (Passes h entries × (sizeOf (length (encodeAll (numbersOf h))) 0 ≤ room))
+  pub ten : refusal ≡ 10 ↔ (MetricsBroken h ⊎ (HeaderPasses h × TooMany entries))
+  pub twelve : refusal ≡ 12 ↔ (HeaderPasses h × (Ragged entries ⊎ BadRecord entries))
+  pub nine : refusal ≡ 9 ↔ (Passes h entries × (room < reportSize (length (encodeAll (numbersOf h))) 0))
+  pub accepted : refusal ≡ 0 ↔ (Passes h entries × (reportSize (length (encodeAll (numbersOf h))) 0 ≤ room))
+  pub others : OneOf refusal (0 ∷ 5 ∷ 9 ∷ 10 ∷ 11 ∷ 12 ∷ [])
 
 abbrev pub ReportWrites : Type 0
 ReportWrites = (h : Header) (entries : List ℕ) (room : ℕ) → WriterRows h entries room (writtenRefusal (writeAnswer h entries room))

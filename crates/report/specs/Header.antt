@@ -1,5 +1,4 @@
--- The header as a list of numbers: 0 timestamp, 1 interval, 2 total, 3 received, 4 late, 5 lost, 6 average,
--- 7 metric count, then a type and a value for each metric, then the entry count.
+-- What each number of a header brings, and the header that the numbers are.
 use Prim.Native.Nat.{ℕ, zero, suc, _+_, _-_, _*_, _/_, _%_, min}
 use mathlib.Core.List.{List, [], _∷_, _++_}
 use mathlib.Core.Bool.{Bool, true, false}
@@ -7,7 +6,9 @@ use lib.Dec.{eqb, leb, ltb}
 use lib.ListN.{length, getD}
 use lib.IntN.{pos}
 use Rattle.wire.specs.Bytes.{pick}
-use Rattle.report.specs.Limits.{mostMetrics, mostEntries, fixedNumbers}
+use Rattle.entries.specs.Limits.{mostEntries}
+use Rattle.report.specs.Layout.{atTimestamp, atInterval, atTotal, atReceived, atLate, atLost, atAverage, atMetrics, fixedNumbers, atType, atValue}
+use Rattle.report.specs.Limits.{mostMetrics}
 use Rattle.report.specs.Average.{storedOf, averageOf}
 use Rattle.report.specs.declared.Header.{Header}
 
@@ -28,14 +29,14 @@ typeRises ns v = pick (eqb (length ns) fixedNumbers) true (ltb (getD ns (length 
 -- behind the metrics that were counted the entry count, otherwise a type
 unfoldable pub judgeLater : List ℕ → ℕ → ℕ
 judgeLater ns v =
-    pick (eqb ((length ns - fixedNumbers) / 2) (getD ns 7 0)) (unless 10 (leb v mostEntries))
+    pick (eqb ((length ns - fixedNumbers) / 2) (getD ns atMetrics 0)) (unless 10 (leb v mostEntries))
     (unless 10 (pick (knownType v) (typeRises ns v) false))
 
 -- "The sum (11) is checked after lost; 10 after each count or type"; 0 for no refusal, as for a metric's value
 unfoldable pub judge : List ℕ → ℕ → ℕ
 judge ns v =
-    pick (eqb (length ns) 5) (unless 11 (eqb (getD ns 2 0) (getD ns 3 0 + getD ns 4 0 + v)))
-    (pick (eqb (length ns) 7) (unless 10 (leb v mostMetrics))
+    pick (eqb (length ns) atLost) (unless 11 (eqb (getD ns atTotal 0) (getD ns atReceived 0 + getD ns atLate 0 + v)))
+    (pick (eqb (length ns) atMetrics) (unless 10 (leb v mostMetrics))
     (pick (ltb (length ns) fixedNumbers) 0
     (pick (eqb (length ns % 2) 1) 0
     (judgeLater ns v))))
@@ -50,7 +51,7 @@ firstFault vs = faultAfter [] vs
 
 -- how many numbers there are with the entry count, as far as the numbers so far tell
 abbrev pub wantedOf : List ℕ → ℕ
-wantedOf ns = fixedNumbers + 2 * min (getD ns 7 0) mostMetrics + 1
+wantedOf ns = fixedNumbers + 2 * min (getD ns atMetrics 0) mostMetrics + 1
 
 -- the entry count is the last of the numbers
 abbrev pub countOf : List ℕ → ℕ
@@ -65,21 +66,21 @@ each (suc n) i f = f i ∷ each n (suc i) f
 
 -- what stands at the place, if metric i is among those counted
 abbrev pub metricAt : List ℕ → ℕ → ℕ → ℕ
-metricAt ns i place = pick (ltb i (getD ns 7 0)) (getD ns place 0) 0
+metricAt ns i place = pick (ltb i (getD ns atMetrics 0)) (getD ns place 0) 0
 
 -- the header that the numbers are
 unfoldable pub headerOf : List ℕ → Header
 headerOf ns = record {
-  timestamp = getD ns 0 0;
-  interval = getD ns 1 0;
-  total = getD ns 2 0;
-  received = getD ns 3 0;
-  late = getD ns 4 0;
-  lost = getD ns 5 0;
-  average = averageOf (getD ns 6 0);
-  metrics = getD ns 7 0;
-  kinds = each mostMetrics 0 (λ i. metricAt ns i (fixedNumbers + 2 * i));
-  values = each mostMetrics 0 (λ i. metricAt ns i (fixedNumbers + 2 * i + 1));
+  timestamp = getD ns atTimestamp 0;
+  interval = getD ns atInterval 0;
+  total = getD ns atTotal 0;
+  received = getD ns atReceived 0;
+  late = getD ns atLate 0;
+  lost = getD ns atLost 0;
+  average = averageOf (getD ns atAverage 0);
+  metrics = getD ns atMetrics 0;
+  kinds = each mostMetrics 0 (λ i. metricAt ns i (atType i));
+  values = each mostMetrics 0 (λ i. metricAt ns i (atValue i));
   entries = countOf ns;
 }
 

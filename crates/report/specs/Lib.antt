@@ -1,7 +1,7 @@
+pub mod Layout
 pub mod Limits
 pub mod Average
 pub mod Header
-pub mod Entries
 pub mod Reader
 pub mod Writer
 pub mod Refusals

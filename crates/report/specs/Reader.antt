@@ -6,10 +6,11 @@ use lib.ListN.{length, take, drop}
 use Rattle.wire.specs.Bytes.{pick}
 use Rattle.wire.specs.Fields.{field}
 use Rattle.wire.specs.Numbers.{readNumber}
-use Rattle.report.specs.Limits.{recordSize, mostNumbers}
+use Rattle.entries.specs.Limits.{recordSize}
+use Rattle.report.specs.Limits.{mostNumbers}
 use Rattle.report.specs.Header.{judge, wantedOf, countOf, headerOf, emptyHeader}
-use Rattle.report.specs.Entries.{entriesGood}
-use Rattle.report.specs.declared.Found.{Found}
+use Rattle.entries.specs.Entries.{entriesGood}
+use Rattle.report.specs.declared.NumbersRead.{NumbersRead}
 use Rattle.report.specs.declared.Report.{Report}
 
 -- the numbers and the place after them, or a refusal
@@ -41,8 +42,9 @@ judgeEntries s (Whole ns at) =
     (pick (eqb (at + recordSize * countOf ns) (length s)) (Whole ns at) (Stopped 13))
     (Stopped 12)) (Stopped 2)
 
-unfoldable pub judged : List ℕ → Reading
-judged s = judgeEntries s (readNumbers s)
+-- the whole report: its numbers, then its entries
+unfoldable pub reportReading : List ℕ → Reading
+reportReading s = judgeEntries s (readNumbers s)
 
 -- what the reader answers: the header, or the refusal and the empty header
 unfoldable pub reportOf : Reading → Report
@@ -50,7 +52,7 @@ reportOf (Whole ns at) = record { refusal = 0; header = headerOf ns }
 reportOf (Stopped n) = record { refusal = n; header = emptyHeader }
 
 abbrev pub readReport : List ℕ → Report
-readReport s = reportOf (judged s)
+readReport s = reportOf (reportReading s)
 
 -- what its companion answers: "a part of the caller's own bytes", empty on a refusal
 unfoldable pub entriesIn : List ℕ → Reading → List ℕ
@@ -58,8 +60,8 @@ entriesIn s (Whole ns at) = partOf s ns at
 entriesIn s (Stopped n) = []
 
 abbrev pub entriesOf : List ℕ → List ℕ
-entriesOf s = entriesIn s (judged s)
+entriesOf s = entriesIn s (reportReading s)
 
 -- the numbers that the code's own answer holds
-unfoldable pub foundOf : Found → Reading
-foundOf f = pick (eqb (f .refusal) 0) (Whole (take (f .count) (f .numbers)) (f .next)) (Stopped (f .refusal))
+unfoldable pub readingOf : NumbersRead → Reading
+readingOf f = pick (eqb (f .refusal) 0) (Whole (take (f .count) (f .numbers)) (f .next)) (Stopped (f .refusal))

@@ -1,35 +1,31 @@
 -- The writer: what it judges and in which order, how many records it keeps, and the bytes.
-use Prim.Native.Nat.{ℕ, zero, suc, _+_, _-_, _*_, _/_, min}
+use Prim.Native.Nat.{ℕ, _+_, _-_, _/_}
 use mathlib.Core.List.{List, [], _∷_, _++_}
 use lib.Dec.{eqb, leb}
-use lib.ListN.{length, drop}
+use lib.ListN.{length}
 use Rattle.wire.specs.Bytes.{pick, splice}
-use Rattle.wire.specs.Numbers.{encodeAll, allSmall, widthOf}
-use Rattle.report.specs.Limits.{recordSize, mostEntries}
+use Rattle.wire.specs.Numbers.{encodeAll, allSmall}
+use Rattle.entries.specs.Limits.{recordSize}
+use Rattle.entries.specs.Entries.{entriesFault}
+use Rattle.entries.specs.Fitting.{sizeOf, fittingOf, lastOf}
 use Rattle.report.specs.Header.{firstFault, numbersOf}
-use Rattle.report.specs.Entries.{entriesFault}
 use Rattle.report.specs.declared.Header.{Header}
 use Rattle.report.specs.declared.Written.{Written}
 use Rattle.report.specs.declared.Written.the-variants.{Done, Refused}
 
--- how long the report is with k records behind a head of so many bytes: the entry count is a number too
-abbrev pub sizeOf : ℕ → ℕ → ℕ
-sizeOf head k = head + widthOf k + recordSize * k
-
--- the largest k, at most the given one, with which the report fits the room
-unfoldable pub keptFrom : ℕ → ℕ → ℕ → ℕ
-keptFrom head room zero = 0
-keptFrom head room (suc k) = pick (leb (sizeOf head (suc k)) room) (suc k) (keptFrom head room k)
+-- how long the report is with k records behind a head of so many bytes
+abbrev pub reportSize : ℕ → ℕ → ℕ
+reportSize head k = head + sizeOf k
 
 -- "the longest run of last records, at most 50, that fits"
 abbrev pub keptOf : List ℕ → List ℕ → ℕ → ℕ
-keptOf ns entries room = keptFrom (length (encodeAll ns)) room (min (length entries / recordSize) mostEntries)
+keptOf ns entries room = fittingOf (length entries / recordSize) (room - length (encodeAll ns))
 
 -- "room (9)": the report with no record is the smallest
 abbrev pub fitted : List ℕ → List ℕ → ℕ → Written
 fitted ns entries room =
-    pick (leb (sizeOf (length (encodeAll ns)) 0) room)
-    (Done (sizeOf (length (encodeAll ns)) (keptOf ns entries room)) (keptOf ns entries room))
+    pick (leb (reportSize (length (encodeAll ns)) 0) room)
+    (Done (reportSize (length (encodeAll ns)) (keptOf ns entries room)) (keptOf ns entries room))
     (Refused 9)
 
 -- "numbers (5 ..), the sum (11), metric count and types (10), an entry length .. (12), .. (10), each record (12), room (9)"
@@ -47,7 +43,7 @@ writeAnswer h entries room = planned (numbersOf h) entries room
 
 -- the report: the numbers, the number kept, and that many last records
 abbrev pub reportBytes : List ℕ → List ℕ → ℕ → List ℕ
-reportBytes ns entries k = encodeAll (ns ++ (k ∷ [])) ++ drop (length entries - recordSize * k) entries
+reportBytes ns entries k = encodeAll (ns ++ (k ∷ [])) ++ lastOf entries k
 
 -- the lent buffer after the answer: the report and the bytes that stood behind it, or as it was
 unfoldable pub storedAs : Written → List ℕ → List ℕ → List ℕ → List ℕ

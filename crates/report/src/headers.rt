@@ -1,8 +1,9 @@
 // Between a header and its list of numbers, and how the signed average is stored.
 ghost use mathlib.Core.Path.{_≡_};
-ghost use Prim.Native.Nat.{_+_, _*_, min};
+ghost use Prim.Native.Nat.{_+_, _*_, _≤_, _<_, min};
 ghost use lib.ListN.{take};
-ghost use Rattle.report.specs.Limits.{fixedNumbers, mostMetrics};
+ghost use Rattle.report.specs.Layout.{fixedNumbers};
+ghost use Rattle.report.specs.Limits.{mostMetrics};
 ghost use Rattle.report.specs.Average.{storedOf, averageOf};
 ghost use Rattle.report.specs.Header.{metricAt, headerOf, numbersOf, emptyHeader};
 use crate::Header;
@@ -10,6 +11,17 @@ use crate::MOST_METRICS;
 use crate::MOST_NUMBERS;
 use crate::judging::last_of;
 use crate::judging::number_at;
+use crate::layout::AT_AVERAGE;
+use crate::layout::AT_INTERVAL;
+use crate::layout::AT_LATE;
+use crate::layout::AT_LOST;
+use crate::layout::AT_METRICS;
+use crate::layout::AT_RECEIVED;
+use crate::layout::AT_TIMESTAMP;
+use crate::layout::AT_TOTAL;
+use crate::layout::FIXED;
+use crate::layout::TYPE;
+use crate::layout::VALUE;
 
 // The number that a signed average is stored as; outside its range it is above 2^62 - 1.
 fn stored(n: i64) -> u64
@@ -31,12 +43,13 @@ fn average(v: u64) -> i64
     if v % 2 == 0 { half } else { -half - 1 }
 }
 
-// The type or the value of metric i, which stands at the given place; 0 from the metric count on.
-fn metric_at(numbers: &[u64], i: u64, place: usize) -> u64
-    ensures { λ r. ⌜ r ≡ metricAt (now (numbers .entry)) i place ⌝ }
+// The type or the value of metric i; 0 from the metric count on.
+fn metric_at(numbers: &[u64], i: usize, part: usize) -> u64
+    requires { ⌜ (i < mostMetrics) × (part ≤ 1) ⌝ }
+    ensures { λ r. ⌜ r ≡ metricAt (now (numbers .entry)) i (fixedNumbers + 2 * i + part) ⌝ }
 {
-    if i < number_at(numbers, 7) {
-        number_at(numbers, place)
+    if (i as u64) < number_at(numbers, AT_METRICS) {
+        number_at(numbers, FIXED + 2 * i + part)
     } else {
         0
     }
@@ -47,27 +60,27 @@ pub(crate) fn header_of(numbers: &[u64]) -> Header
     ensures { λ r. ⌜ r ≡ headerOf (now (numbers .entry)) ⌝ }
 {
     let kinds = [
-        metric_at(numbers, 0, 8),
-        metric_at(numbers, 1, 10),
-        metric_at(numbers, 2, 12),
-        metric_at(numbers, 3, 14),
+        metric_at(numbers, 0, TYPE),
+        metric_at(numbers, 1, TYPE),
+        metric_at(numbers, 2, TYPE),
+        metric_at(numbers, 3, TYPE),
     ];
     let values = [
-        metric_at(numbers, 0, 9),
-        metric_at(numbers, 1, 11),
-        metric_at(numbers, 2, 13),
-        metric_at(numbers, 3, 15),
+        metric_at(numbers, 0, VALUE),
+        metric_at(numbers, 1, VALUE),
+        metric_at(numbers, 2, VALUE),
+        metric_at(numbers, 3, VALUE),
     ];
-    let mean = average(number_at(numbers, 6));
+    let mean = average(number_at(numbers, AT_AVERAGE));
     Header {
-        timestamp: number_at(numbers, 0),
-        interval: number_at(numbers, 1),
-        total: number_at(numbers, 2),
-        received: number_at(numbers, 3),
-        late: number_at(numbers, 4),
-        lost: number_at(numbers, 5),
+        timestamp: number_at(numbers, AT_TIMESTAMP),
+        interval: number_at(numbers, AT_INTERVAL),
+        total: number_at(numbers, AT_TOTAL),
+        received: number_at(numbers, AT_RECEIVED),
+        late: number_at(numbers, AT_LATE),
+        lost: number_at(numbers, AT_LOST),
         average: mean,
-        metrics: number_at(numbers, 7),
+        metrics: number_at(numbers, AT_METRICS),
         kinds,
         values,
         entries: last_of(numbers),

@@ -3,11 +3,17 @@ ghost use mathlib.Core.Path.{_≡_};
 ghost use Prim.Native.Nat.{_+_, _≤_, min};
 ghost use lib.Dec.{eqb};
 ghost use lib.ListN.{length, getD};
-ghost use Rattle.report.specs.Limits.{fixedNumbers, mostMetrics};
+ghost use Rattle.report.specs.Layout.{fixedNumbers};
+ghost use Rattle.report.specs.Limits.{mostMetrics};
 ghost use Rattle.report.specs.Header.{knownType, judge, judgeLater, firstFault, wantedOf, countOf};
-use crate::FIXED;
-use crate::MOST_ENTRIES;
 use crate::MOST_METRICS;
+use crate::layout::AT_LATE;
+use crate::layout::AT_LOST;
+use crate::layout::AT_METRICS;
+use crate::layout::AT_RECEIVED;
+use crate::layout::AT_TOTAL;
+use crate::layout::FIXED;
+use entries::MOST_ENTRIES;
 
 // "types .. from 0x02, 0x04, 0x10, 0x12"
 fn known_type(kind: u64) -> bool
@@ -38,13 +44,13 @@ pub(crate) fn judge_next(numbers: &[u64], v: u64) -> u64
     ensures { λ r. ⌜ r ≡ judge (now (numbers .entry)) v ⌝ }
 {
     let n = numbers.len();
-    if n == 5 {
-        if adds_up(numbers[2], numbers[3], numbers[4], v) {
+    if n == AT_LOST {
+        if adds_up(numbers[AT_TOTAL], numbers[AT_RECEIVED], numbers[AT_LATE], v) {
             return 0;
         }
         return 11;
     }
-    if n == 7 {
+    if n == AT_METRICS {
         if v <= MOST_METRICS as u64 {
             return 0;
         }
@@ -66,7 +72,7 @@ fn judge_later(numbers: &[u64], v: u64) -> u64
 {
     let n = numbers.len();
     let metric = ((n - FIXED) / 2) as u64;
-    let metrics = numbers[7];
+    let metrics = numbers[AT_METRICS];
     if metric == metrics {
         if v <= MOST_ENTRIES as u64 {
             return 0;
@@ -80,13 +86,6 @@ fn judge_later(numbers: &[u64], v: u64) -> u64
         return 0;
     }
     if numbers[n - 2] < v { 0 } else { 10 }
-}
-
-// The smaller of the two.
-pub(crate) fn at_most(n: usize, limit: usize) -> usize
-    ensures { λ r. ⌜ r ≡ min n limit ⌝ }
-{
-    if n <= limit { n } else { limit }
 }
 
 // How many metrics are looked at: those of the count, up to the limit.
@@ -111,7 +110,7 @@ pub(crate) fn number_at(numbers: &[u64], i: usize) -> u64
 pub(crate) fn wanted(numbers: &[u64]) -> usize
     ensures { λ r. ⌜ r ≡ wantedOf (now (numbers .entry)) ⌝ }
 {
-    let metrics = number_at(numbers, 7);
+    let metrics = number_at(numbers, AT_METRICS);
     FIXED + 2 * looked_at(metrics) + 1
 }
 

@@ -2,39 +2,26 @@
 // Carries "The feedback report" of document 01: the whole reader, its companion for the entries, one entry, the writer.
 // Every public function takes any bytes and any header, and refuses by the paper's table.
 ghost use mathlib.Core.Path.{_≡_};
-ghost use Rattle.report.specs.Refusals.{entryRefusal, writtenRefusal};
+ghost use Rattle.report.specs.Refusals.{writtenRefusal};
 
-mod entries;
 mod headers;
 mod judging;
+mod layout;
 mod reader;
 mod writer;
 
+pub use entries::Entry;
+pub use entries::Status;
 pub use entries::read_entry;
 pub use reader::entries_of;
 pub use reader::read_report;
 pub use writer::write_report;
 
-// At most so many entries in a report.
-const MOST_ENTRIES: usize = 50;
-
 // At most so many metrics in a header.
 const MOST_METRICS: usize = 4;
 
-// The length of an entry record in bytes.
-const RECORD: usize = 16;
-
-// At most so many records are handed to the writer.
-const MOST_GIVEN: usize = 256;
-
-// Timestamp, interval, total, received, late, lost, average, metric count.
-const FIXED: usize = 8;
-
-// Those, a type and a value for each metric, and the entry count.
-const MOST_NUMBERS: usize = FIXED + 2 * MOST_METRICS + 1;
-
-// The largest object number.
-const LARGEST: u64 = 4611686018427387903;
+// The numbers that every header has, a type and a value for each metric, and the entry count.
+const MOST_NUMBERS: usize = layout::FIXED + 2 * MOST_METRICS + 1;
 
 // The summary of a report, and what comes with it. On a refusal all numbers are 0.
 #[repr(C)]
@@ -70,25 +57,6 @@ pub struct Report {
     pub header: Header,
 }
 
-// What became of an object.
-pub enum Status {
-    Received,
-    Late,
-    NotReceived,
-    Partial,
-}
-
-// What reading an entry finds: the entry, that the bytes end inside it (2), or that it breaks its rule (12).
-pub enum Entry {
-    Record {
-        object: u64,
-        status: Status,
-        age: u64,
-    },
-    Ends,
-    Broken,
-}
-
 // What the writer answers: the place after the report and how many records were kept, or the refusal.
 pub enum Written {
     Done { next: usize, kept: usize },
@@ -96,28 +64,11 @@ pub enum Written {
 }
 
 // The numbers of a report as far as they were read: 0 or a refusal, the place after them, how many they are, and the numbers themselves.
-struct Found {
+struct NumbersRead {
     refusal: u64,
     next: usize,
     count: usize,
     numbers: [u64; MOST_NUMBERS],
-}
-
-impl Entry {
-    // The paper's number for the answer, 0 for accepted.
-    pub fn refusal(self) -> u64
-        ensures { λ r. ⌜ r ≡ entryRefusal self ⌝ }
-    {
-        match self {
-            Entry::Record {
-                object: _,
-                status: _,
-                age: _,
-            } => 0,
-            Entry::Ends => 2,
-            Entry::Broken => 12,
-        }
-    }
 }
 
 impl Written {

@@ -3,22 +3,22 @@ ghost use mathlib.Core.Path.{_≡_};
 ghost use Prim.Native.Nat.{_≤_};
 ghost use lib.ListN.{length};
 ghost use Rattle.report.specs.Limits.{mostNumbers};
-ghost use Rattle.report.specs.Reader.{foundOf, readNumbers, judged, readReport, entriesOf};
-use crate::Found;
+ghost use Rattle.report.specs.Reader.{readingOf, readNumbers, reportReading, readReport, entriesOf};
 use crate::MOST_NUMBERS;
-use crate::RECORD;
+use crate::NumbersRead;
 use crate::Report;
-use crate::entries::entries_good;
 use crate::headers::empty_header;
 use crate::headers::header_of;
 use crate::judging::judge_next;
 use crate::judging::last_of;
 use crate::judging::wanted;
+use entries::RECORD;
+use entries::entries_good;
 use wire::Number;
 
 // Reads the header's numbers one by one; each is judged as soon as it is read.
-fn read_numbers(s: &[u8]) -> Found
-    ensures { λ r. ⌜ (foundOf r ≡ readNumbers (now (s .entry))) × ((r .next ≤ length (now (s .entry))) × (r .count ≤ mostNumbers)) ⌝ }
+fn read_numbers(s: &[u8]) -> NumbersRead
+    ensures { λ r. ⌜ (readingOf r ≡ readNumbers (now (s .entry))) × ((r .next ≤ length (now (s .entry))) × (r .count ≤ mostNumbers)) ⌝ }
 {
     let mut numbers = [0u64; MOST_NUMBERS];
     let mut at: usize = 0;
@@ -26,7 +26,7 @@ fn read_numbers(s: &[u8]) -> Found
     while count < MOST_NUMBERS {
         let whole = wanted(&numbers[..count]);
         if whole <= count {
-            return Found {
+            return NumbersRead {
                 refusal: 0,
                 next: at,
                 count,
@@ -44,7 +44,7 @@ fn read_numbers(s: &[u8]) -> Found
         at = next;
         count += 1;
     }
-    Found {
+    NumbersRead {
         refusal: 0,
         next: at,
         count,
@@ -53,11 +53,11 @@ fn read_numbers(s: &[u8]) -> Found
 }
 
 // No numbers, and why.
-fn stopped(refusal: u64) -> Found
+fn stopped(refusal: u64) -> NumbersRead
     ensures { λ r. ⌜ (r .refusal ≡ refusal) × ((r .next ≡ 0) × (r .count ≡ 0)) ⌝ }
 {
     let numbers = [0u64; MOST_NUMBERS];
-    Found {
+    NumbersRead {
         refusal,
         next: 0,
         count: 0,
@@ -66,8 +66,8 @@ fn stopped(refusal: u64) -> Found
 }
 
 // Judges a whole report: its numbers, then whether its entries are there (2), good (12) and its end (13).
-fn judge_report(s: &[u8]) -> Found
-    ensures { λ r. ⌜ (foundOf r ≡ judged (now (s .entry))) × ((r .next ≤ length (now (s .entry))) × (r .count ≤ mostNumbers)) ⌝ }
+fn judge_report(s: &[u8]) -> NumbersRead
+    ensures { λ r. ⌜ (readingOf r ≡ reportReading (now (s .entry))) × ((r .next ≤ length (now (s .entry))) × (r .count ≤ mostNumbers)) ⌝ }
 {
     let found = read_numbers(s);
     if found.refusal != 0 {

@@ -1,4 +1,4 @@
-// The writer: what it judges, how many of the last records fit, and the bytes.
+// The writer: what it judges, and the bytes.
 ghost use mathlib.Core.Path.{_≡_};
 ghost use mathlib.Core.Bool.{true};
 ghost use mathlib.Core.List.{_++_};
@@ -6,34 +6,16 @@ ghost use Prim.Native.Nat.{_+_, _≤_};
 ghost use lib.ListN.{length};
 ghost use Rattle.wire.specs.Bytes.{splice};
 ghost use Rattle.wire.specs.Numbers.{encodeAll, allSmall};
-ghost use Rattle.report.specs.Limits.{mostGiven};
-ghost use Rattle.report.specs.Writer.{keptFrom, planned, writeAnswer, writeBytes};
-use crate::FIXED;
+ghost use Rattle.report.specs.Writer.{planned, writeAnswer, writeBytes};
 use crate::Header;
-use crate::MOST_ENTRIES;
-use crate::RECORD;
 use crate::Written;
-use crate::entries::entries_fault;
 use crate::headers::numbers_of;
-use crate::judging::at_most;
 use crate::judging::first_fault;
 use crate::judging::looked_at;
-
-// The largest number of records, at most the given one, that fits the room behind a head of so many bytes.
-fn kept(head: usize, room: usize, most: usize) -> usize
-    requires { ⌜ (head ≤ room) × (most ≤ mostGiven) ⌝ }
-    ensures { λ r. ⌜ r ≡ keptFrom head room most ⌝ }
-{
-    let rest = room - head;
-    let mut k = most;
-    while 0 < k {
-        if wire::width(k as u64) + RECORD * k <= rest {
-            return k;
-        }
-        k -= 1;
-    }
-    0
-}
+use crate::layout::FIXED;
+use entries::RECORD;
+use entries::entries_fault;
+use entries::fitting;
 
 // What the writer answers: it judges in the paper's order, then fits the records to the room.
 fn plan(numbers: &[u64], entries: &[u8], room: usize) -> Written
@@ -53,11 +35,10 @@ fn plan(numbers: &[u64], entries: &[u8], room: usize) -> Written
     if room <= head {
         return Written::Refused(9);
     }
-    let most = at_most(entries.len() / RECORD, MOST_ENTRIES);
-    let k = kept(head, room, most);
+    let kept = fitting(entries.len() / RECORD, room - head);
     Written::Done {
-        next: head + wire::width(k as u64) + RECORD * k,
-        kept: k,
+        next: head + wire::width(kept as u64) + RECORD * kept,
+        kept,
     }
 }
 

@@ -3,8 +3,8 @@
 ghost use mathlib.Core.Path.{_≡_};
 ghost use Rattle.stream.specs.Stream.{micros, streamed};
 use receiver::Answer;
-use receiver::Micros;
 use receiver::Receiver;
+use seen::Micros;
 
 // Takes packets with these numbers one after another, all at one time, and stops at the first that is refused.
 #[no_mangle]

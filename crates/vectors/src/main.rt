@@ -5,9 +5,9 @@ mod calls;
 mod show;
 
 use calls::Reader;
-use receiver::Micros;
 use receiver::Millis;
 use receiver::Receiver;
+use seen::Micros;
 
 fn head() {
     show::text(b"Each line: the call, what it is given, what it answers. ");

@@ -11,19 +11,19 @@ use lib.Dec.{leb, lit<}
 use lib.Pow.{suc-ones, pow-pos, pow-lt}
 use lib.ListN.{length, getD, take, drop, length-take, length-drop}
 use lib.Seq.{getD-drop, getD-take, length-take-le}
-use Rattle.wire.specs.Bytes.{pick, be, digits}
+use Rattle.wire.specs.Bytes.{pick, be, digits, Octets}
 use Rattle.wire.specs.Fields.{readFixed, field, fixed}
 use Rattle.wire.specs.Numbers.{lenOf, roomOf, largestOf, limit, codeOf, widthOf, form, encode, readForm, readNumber}
 use Rattle.wire.specs.declared.Number.{Number}
 use Rattle.wire.specs.declared.Number.the-variants.{Value, Ends}
-use Rattle.wire.proofs.Bytes.{Octets, be-above, digits-be, octets-part}
+use Rattle.wire.proofs.Bytes.{be-above, digits-be, octets-part}
 use Rattle.wire.proofs.Lengths.{split, room-le, room-pos, code-least, width-found, width-least}
 
 never : {A : Type 0} (v next : ℕ) → Ends ≡ Value v next → A
 never v next e = let z : _≡_ {A = ℕ} 0 1 = cc in absurd (omega arith)
 
 -- what reading a field found
-fixed-is : (len : ℕ) (s : List ℕ) (at v next : ℕ) → readFixed len s at ≡ Value v next
+pub fixed-is : (len : ℕ) (s : List ℕ) (at v next : ℕ) → readFixed len s at ≡ Value v next
     → (next ≡ at + len) × (next ≤ length s) × (v ≡ be 0 (take len (drop at s)))
 unfolding readFixed
 fixed-is len s at v next e = go (leb (at + len) (length s)) refl e
@@ -37,7 +37,7 @@ fixed-is len s at v next e = go (leb (at + len) (length s)) refl e
     go false t e = never v next e
 
 -- what reading a number found
-number-is : (s : List ℕ) (at v next : ℕ) → readNumber s at ≡ Value v next
+pub number-is : (s : List ℕ) (at v next : ℕ) → readNumber s at ≡ Value v next
     → let k = getD s at 0 / 64 in (next ≡ at + lenOf k) × (next ≤ length s) × (v ≡ be 0 (take (lenOf k) (drop at s)) % roomOf k)
 unfolding readNumber readForm
 number-is s at v next e = go (readFixed (lenOf k) s at) refl e

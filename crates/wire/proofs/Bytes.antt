@@ -13,10 +13,15 @@ use lib.Arith.{mod-mul}
 use lib.ListN.{length, getD, take, drop, length-take, length-append}
 use lib.Seq.{drop-drop, drop-at, take-at, getD-drop}
 use Rattle.wire.specs.Bytes.{be, digits, splice}
+pub use Rattle.wire.specs.Bytes.{Octets}
 
--- every element is a byte
-abbrev pub Octets : List ℕ → Type 0
-Octets bs = (i : ℕ) → getD bs i 0 < 256
+-- the bytes of a number are that number, as far as they reach
+pub be-digits : (k n : ℕ) (tl : List ℕ) (acc : ℕ) → be acc (digits k n tl) ≡ be (acc * 256 ^ k + n % 256 ^ k) tl
+be-digits zero n tl acc = ap (λ (a : ℕ). be a tl) (omega arith)
+be-digits (suc k) n tl acc =
+    be-digits k (n / 256) (n % 256 ∷ tl) acc
+    ∙ ap (λ (a : ℕ). be a tl)
+    (rw (pow-suc, mod-mul n {m = 256 ^ k} {c = 256} (one-le-pow k 256 (lit< tt)) (lit< tt), ← mul-assoc) (omega arith))
 
 pub grows : (bs : List ℕ) (acc : ℕ) → acc ≤ be acc bs
 grows [] acc = le-refl acc
@@ -39,14 +44,6 @@ be-above bs acc h = div-eq-of-lt-le (256 ^ length bs) (lower bs acc) (rw add-one
 -- eight bytes fit a word
 pub join-lt : (bs : List ℕ) → ((i : ℕ) → Fits w8 (getD bs i 0)) → length bs ≤ 8 → be 0 bs < 2 ^ 64
 join-lt bs h l = omega (arith, bound bs 0 (λ i. h i .fits), pow-le-pow-right {n = 256} (lit< tt) l)
-
--- the bytes of a number are that number, as far as they reach
-pub be-digits : (k n : ℕ) (tl : List ℕ) (acc : ℕ) → be acc (digits k n tl) ≡ be (acc * 256 ^ k + n % 256 ^ k) tl
-be-digits zero n tl acc = ap (λ (a : ℕ). be a tl) (omega arith)
-be-digits (suc k) n tl acc =
-    be-digits k (n / 256) (n % 256 ∷ tl) acc
-    ∙ ap (λ (a : ℕ). be a tl)
-    (rw (pow-suc, mod-mul n {m = 256 ^ k} {c = 256} (one-le-pow k 256 (lit< tt)) (lit< tt), ← mul-assoc) (omega arith))
 
 pub length-digits : (k n : ℕ) (tl : List ℕ) → length (digits k n tl) ≡ k + length tl
 length-digits zero n tl = omega arith

@@ -1,25 +1,25 @@
 -- The refusal table for numbers and fixed fields, proved: each test of a definition is one side of its row.
 -- Assumes nothing.
-use Prim.Native.Nat.{ℕ, zero, suc, _+_, _/_, _≤_, _<_, zero-le, suc-le-suc}
-use mathlib.Core.Path.{_≡_, refl, sym, ap, _∙_}
+use Prim.Native.Nat.{ℕ, _+_, _/_, _≤_, _<_}
+use mathlib.Core.Path.{_≡_, refl, sym}
+use mathlib.Core.Logic.{inl, inr}
 use mathlib.Core.Bool.{Bool, true, false}
 use mathlib.Core.List.{List, [], _∷_}
-use native.Mathlib.Nat.{not-suc-le-zero, le-of-suc-le-suc}
 use native.Mathlib.Omega.{arith}
-use borrow.Author.Tests.{leb-true, leb-false, le-leb, lt-leb, eqb-false}
+use borrow.Author.Tests.{le-leb, lt-leb, eqb-false}
 use lib.Dec.{leb}
-use lib.ListN.{length, getD, take, drop}
-use Rattle.wire.specs.Bytes.{pick, be}
-use Rattle.wire.specs.Fields.{readFixed, field, placed, after, written}
-use Rattle.wire.specs.Numbers.{lenOf, roomOf, limit, encodeAll, allSmall, readForm, readNumber, putAnswer, putBytes}
-use Rattle.wire.specs.Refusals.{numberRefusal, putRefusal}
-use Rattle.wire.specs.Exactly.{Reads, FixedReads, NumberReads, Small, Writes, NumbersWrite, Places, BytesWrite, NumbersUnchanged, BytesUnchanged}
-use Rattle.wire.specs.declared.Number.{Number}
-use Rattle.wire.specs.declared.Number.the-variants.{Value, Ends}
+use lib.ListN.{length, getD}
+use Rattle.wire.specs.Bytes.{pick}
+use Rattle.wire.specs.Fields.{readFixed, placed, after}
+use Rattle.wire.specs.Numbers.{lenOf, encodeAll, allSmall, readForm, readNumber, lengthOf, putAnswer, putBytes}
+use Rattle.wire.specs.Refusals.{numberRefusal, putRefusal, lengthRefusal}
+use Rattle.wire.specs.Exactly.{OneOf, Small, Reads, FixedReads, NumberReads, Writes, NumbersWrite, Places, BytesWrite, Measures, NumbersMeasured, NumbersUnchanged, BytesUnchanged}
 use Rattle.wire.specs.declared.Put.{Put}
 use Rattle.wire.specs.declared.Put.the-variants.{Done, TooLarge, NoRoom}
+use Rattle.wire.specs.declared.Length.the-variants.{Bytes, TooLarge as OneTooLarge}
 use Rattle.wire.proofs.Lengths.{split}
-use Rattle.wire.proofs.Writing.{placed-no, placed-yes, put-large, put-small}
+use Rattle.wire.proofs.Small.{all-small, not-small}
+use Rattle.wire.proofs.Writing.{put-large, put-small}
 
 -- two different numerals are not equal
 other : {A : Type 0} (m n : ℕ) → m ≡ n → (m ≡ n → ⊥) → A
@@ -29,12 +29,14 @@ reads-short : (ends end : ℕ) → ends < end → Reads 2 ends end
 reads-short ends end h = record {
   two = (λ e. h, λ l. refl);
   accepted = (λ e. other 2 0 e (eqb-false 2 0 refl), λ l. absurd (omega arith));
+  others = inr (inl refl);
 }
 
 reads-whole : (ends end : ℕ) → end ≤ ends → Reads 0 ends end
 reads-whole ends end h = record {
   two = (λ e. other 0 2 e (eqb-false 0 2 refl), λ l. absurd (omega arith));
   accepted = (λ e. h, λ l. refl);
+  others = inl refl;
 }
 
 pub fixed-reads : FixedReads
@@ -56,12 +58,14 @@ places-no : (room end : ℕ) → room < end → Places 9 room end
 places-no room end h = record {
   nine = (λ e. h, λ l. refl);
   accepted = (λ e. other 9 0 e (eqb-false 9 0 refl), λ l. absurd (omega arith));
+  others = inr (inl refl);
 }
 
 places-yes : (room end : ℕ) → end ≤ room → Places 0 room end
 places-yes room end h = record {
   nine = (λ e. other 0 9 e (eqb-false 0 9 refl), λ l. absurd (omega arith));
   accepted = (λ e. h, λ l. refl);
+  others = inl refl;
 }
 
 pub bytes-write : BytesWrite
@@ -79,24 +83,11 @@ placed-not-five xs at ys e = go (leb (at + length ys) (length xs)) e
     go true e = eqb-false 0 5 refl e
     go false e = eqb-false 9 5 refl e
 
-no-true : false ≡ true → ⊥
-no-true e = let z : _≡_ {A = ℕ} 0 1 = cc in omega arith
-
--- the test of all numbers is the row's premise
-all-small : (vs : List ℕ) → allSmall vs ≡ true → Small vs
-unfolding allSmall
-all-small [] e = λ i h. absurd (not-suc-le-zero h)
-all-small (v ∷ vs) e = go (all-small vs) (leb v limit) refl e
-  where
-    go : (allSmall vs ≡ true → Small vs) → (b : Bool) → leb v limit ≡ b → pick b (allSmall vs) false ≡ true → Small (v ∷ vs)
-    go more true t e zero h = leb-true v limit t
-    go more true t e (suc i) h = more e i (le-of-suc-le-suc h)
-    go more false t e i h = absurd (no-true e)
-
-small-all : (vs : List ℕ) → Small vs → allSmall vs ≡ true
-unfolding allSmall
-small-all [] f = refl
-small-all (v ∷ vs) f = rw (le-leb v limit (f 0 (suc-le-suc zero-le))) (small-all vs (λ i h. f (suc i) (suc-le-suc h)))
+-- the numbers of a writer's answers
+put-others : (a : Put) → OneOf (putRefusal a) (0 ∷ 5 ∷ 9 ∷ [])
+put-others (Done next) = inl refl
+put-others TooLarge = inr (inl refl)
+put-others NoRoom = inr (inr (inl refl))
 
 pub numbers-write : NumbersWrite
 numbers-write xs at vs = go (allSmall vs) refl
@@ -107,12 +98,28 @@ numbers-write xs at vs = go (allSmall vs) refl
     go : (b : Bool) → allSmall vs ≡ b → Writes (putRefusal (putAnswer xs at vs)) (length xs) end vs
     go true t =
         let p = bytes-write xs at (encodeAll vs) in
-        let s : Small vs = all-small vs t in
+        let s : Small vs = all-small vs .0 t in
         let r : putAnswer xs at vs ≡ placed xs at (encodeAll vs) = sym (put-small xs at vs t .0) in
-        rw r (record { five = (λ e. absurd (placed-not-five xs at (encodeAll vs) e), λ n. absurd (n s)); nine = (λ e. (s, p .nine .0 e), λ l. p .nine .1 (l .1)); accepted = (λ e. (s, p .accepted .0 e), λ l. p .accepted .1 (l .1)) })
+        rw r (record { five = (λ e. absurd (placed-not-five xs at (encodeAll vs) e), λ n. absurd (n s)); nine = (λ e. (s, p .nine .0 e), λ l. p .nine .1 (l .1)); accepted = (λ e. (s, p .accepted .0 e), λ l. p .accepted .1 (l .1)); others = put-others (placed xs at (encodeAll vs)) })
     go false t =
-        let n : Small vs → ⊥ = λ s. no-true (sym t ∙ small-all vs s) in
-        rw (← put-large xs at vs t .0) (record { five = (λ e. n, λ l. refl); nine = (λ e. other 5 9 e (eqb-false 5 9 refl), λ l. absurd (n (l .0))); accepted = (λ e. other 5 0 e (eqb-false 5 0 refl), λ l. absurd (n (l .0))) })
+        let n : Small vs → ⊥ = not-small vs t in
+        rw (← put-large xs at vs t .0) (record { five = (λ e. n, λ l. refl); nine = (λ e. other 5 9 e (eqb-false 5 9 refl), λ l. absurd (n (l .0))); accepted = (λ e. other 5 0 e (eqb-false 5 0 refl), λ l. absurd (n (l .0))); others = inr (inl refl) })
+
+pub numbers-measured : NumbersMeasured
+unfolding lengthOf
+numbers-measured vs = go (allSmall vs) refl
+  where
+    go : (b : Bool) → allSmall vs ≡ b → Measures (lengthRefusal (pick b (Bytes (length (encodeAll vs))) OneTooLarge)) vs
+    go true t = let s : Small vs = all-small vs .0 t in record {
+      five = (λ e. other 0 5 e (eqb-false 0 5 refl), λ n. absurd (n s));
+      accepted = (λ e. s, λ l. refl);
+      others = inl refl;
+    }
+    go false t = let n : Small vs → ⊥ = not-small vs t in record {
+      five = (λ e. n, λ l. refl);
+      accepted = (λ e. other 5 0 e (eqb-false 5 0 refl), λ s. absurd (n s));
+      others = inr (inl refl);
+    }
 
 -- a refused write
 unchanged : (a : Put) (xs : List ℕ) (at : ℕ) (ys : List ℕ) → (putRefusal a ≡ 0 → ⊥) → after a xs at ys ≡ xs

@@ -1,10 +1,12 @@
 pub mod Bytes
 pub mod Table
 pub mod Lengths
+pub mod Small
 pub mod Reading
 pub mod Writing
 pub mod RoundTrip
 pub mod Accepted
+pub mod Standing
 pub mod Exactly
 pub mod Only
 pub mod Examples

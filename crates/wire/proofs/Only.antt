@@ -7,28 +7,30 @@ use borrow.Fn.Kinds.{Out, PK, RK, Dens, resT, endedOf}
 use contract.Lifetimes.{Lfts}
 use denote.Ref.{now}
 use denote.Triple.Clauses.{AtExit}
-use Rattle.wire.proofs.read_number.Reads as read-number
-use Rattle.wire.proofs.read_number.Kinds as read-number-kinds
-use Rattle.wire.proofs.width.Reads as width
-use Rattle.wire.proofs.width.Kinds as width-kinds
-use Rattle.wire.proofs.read_fixed4.Reads as read-fixed4
-use Rattle.wire.proofs.read_fixed4.Kinds as read-fixed4-kinds
-use Rattle.wire.proofs.read_fixed8.Reads as read-fixed8
-use Rattle.wire.proofs.read_fixed8.Kinds as read-fixed8-kinds
-use Rattle.wire.proofs.length_of.Reads as length-of
-use Rattle.wire.proofs.length_of.Kinds as length-of-kinds
+use Rattle.wire.proofs.numbers.read_number.Reads as read-number
+use Rattle.wire.proofs.numbers.read_number.Kinds as read-number-kinds
+use Rattle.wire.proofs.numbers.width.Reads as width
+use Rattle.wire.proofs.numbers.width.Kinds as width-kinds
+use Rattle.wire.proofs.fields.read_fixed4.Reads as read-fixed4
+use Rattle.wire.proofs.fields.read_fixed4.Kinds as read-fixed4-kinds
+use Rattle.wire.proofs.fields.read_fixed8.Reads as read-fixed8
+use Rattle.wire.proofs.fields.read_fixed8.Kinds as read-fixed8-kinds
+use Rattle.wire.proofs.several.length_of.Reads as length-of
+use Rattle.wire.proofs.several.length_of.Kinds as length-of-kinds
 use Rattle.wire.proofs.Number.refusal.Reads as number-refusal
 use Rattle.wire.proofs.Number.refusal.Kinds as number-refusal-kinds
 use Rattle.wire.proofs.Put.refusal.Reads as put-refusal
 use Rattle.wire.proofs.Put.refusal.Kinds as put-refusal-kinds
-use Rattle.wire.proofs.put_number.Reads as put-number
-use Rattle.wire.proofs.put_number.Kinds as put-number-kinds
-use Rattle.wire.proofs.put_numbers.Reads as put-numbers
-use Rattle.wire.proofs.put_numbers.Kinds as put-numbers-kinds
-use Rattle.wire.proofs.put_fixed4.Reads as put-fixed4
-use Rattle.wire.proofs.put_fixed4.Kinds as put-fixed4-kinds
-use Rattle.wire.proofs.put_fixed8.Reads as put-fixed8
-use Rattle.wire.proofs.put_fixed8.Kinds as put-fixed8-kinds
+use Rattle.wire.proofs.Length.refusal.Reads as length-refusal
+use Rattle.wire.proofs.Length.refusal.Kinds as length-refusal-kinds
+use Rattle.wire.proofs.numbers.put_number.Reads as put-number
+use Rattle.wire.proofs.numbers.put_number.Kinds as put-number-kinds
+use Rattle.wire.proofs.several.put_numbers.Reads as put-numbers
+use Rattle.wire.proofs.several.put_numbers.Kinds as put-numbers-kinds
+use Rattle.wire.proofs.fields.put_fixed4.Reads as put-fixed4
+use Rattle.wire.proofs.fields.put_fixed4.Kinds as put-fixed4-kinds
+use Rattle.wire.proofs.fields.put_fixed8.Reads as put-fixed8
+use Rattle.wire.proofs.fields.put_fixed8.Kinds as put-fixed8-kinds
 
 -- what a contract says of a call is fixed by what the call is given: its answer
 abbrev pub OneAnswer : (n : ℕ) (ps : List (PK n)) (r : RK n) → Out n ps r → Type 0
@@ -61,6 +63,9 @@ number-refusal-one κs given x y s t p q = p ∙ sym q
 
 pub put-refusal-one : OneAnswer 0 put-refusal-kinds.ps put-refusal-kinds.r put-refusal.Post
 put-refusal-one κs given x y s t p q = p ∙ sym q
+
+pub length-refusal-one : OneAnswer 0 length-refusal-kinds.ps length-refusal-kinds.r length-refusal.Post
+length-refusal-one κs given x y s t p q = p ∙ sym q
 
 pub put-number-one : OneBuffer 1 put-number-kinds.ps put-number-kinds.r (λ κs s. now (s .0)) put-number.Post
 put-number-one κs given x y s t p q = (p .0 ∙ sym (q .0), p .1 ∙ sym (q .1))

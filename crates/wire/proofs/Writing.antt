@@ -3,7 +3,7 @@
 use Prim.Native.Nat.{ℕ, zero, suc, _+_, _-_, _*_, _^_, _≤_, _<_}
 use mathlib.Core.Path.{_≡_, refl, sym, ap, _∙_}
 use mathlib.Core.Bool.{Bool, true, false}
-use mathlib.Core.List.{List, [], _∷_, _++_, append-nil}
+use mathlib.Core.List.{List, [], _∷_, _++_, append-assoc, append-nil}
 use native.Mathlib.Omega.{arith}
 use borrow.Author.Tests.{le-leb, lt-leb, leb-true}
 use lib.Dec.{leb}
@@ -60,7 +60,12 @@ pub length-encode : (v : ℕ) → v ≤ limit → length (encode v) ≡ widthOf 
 unfolding encode form
 length-encode v h = length-fixed (lenOf (codeOf v)) (codeOf v * roomOf (codeOf v) + v) ∙ sym (width-found v (small-code v h))
 
--- ---- numbers one after the other, from the one at i on
+-- ---- numbers one after the other: in two parts, and from the one at i on
+
+pub encode-append : (us vs : List ℕ) → encodeAll (us ++ vs) ≡ encodeAll us ++ encodeAll vs
+unfolding encodeAll
+encode-append [] vs = refl
+encode-append (u ∷ us) vs = rw (encode-append us vs) (sym (append-assoc (encode u) (encodeAll us) (encodeAll vs)))
 
 module _ (vs : List ℕ) (i : ℕ) (h : i < length vs) where
   pub encode-next : encodeAll (drop i vs) ≡ encode (getD vs i 0) ++ encodeAll (drop (i + 1) vs)

@@ -1,8 +1,12 @@
--- Bytes as numbers, high byte first, and bytes written over others.
-use Prim.Native.Nat.{ℕ, zero, suc, _+_, _*_, _/_, _%_}
+-- Bytes, as numbers, high byte first, and written over others.
+use Prim.Native.Nat.{ℕ, zero, suc, _+_, _*_, _/_, _%_, _<_}
 use mathlib.Core.List.{List, [], _∷_, _++_}
 use mathlib.Core.Bool.{Bool, true, false}
-use lib.ListN.{length, take, drop}
+use lib.ListN.{length, getD, take, drop}
+
+-- every element is a byte
+abbrev pub Octets : List ℕ → Type 0
+Octets bs = (i : ℕ) → getD bs i 0 < 256
 
 -- a where the test holds, b where it does not
 abbrev pub pick : {A : Type 0} → Bool → A → A → A

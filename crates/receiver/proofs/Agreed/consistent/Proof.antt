@@ -1,7 +1,7 @@
 -- `receiver::Agreed::consistent` meets its contract: its tests are the definition's, in its order.
 -- Assumes nothing.
 use Rattle.receiver.specs.Record.{agreedConsistent}
-use Rattle.receiver.proofs.Tests.{failed, held}
+use Rattle.seen.proofs.Tests.{failed, held}
 use borrow.Author.Needs.{needs}
 use Rattle.receiver.proofs.Agreed.consistent.Statement.{statement}
 use Rattle.receiver.proofs.Agreed.consistent.Tie as tie

@@ -6,7 +6,7 @@ use borrow.Author.Tests.{le-leb, lt-leb}
 use lib.Dec.{eqb}
 use Rattle.wire.specs.Bytes.{pick}
 use Rattle.receiver.specs.Record.{pendingConsistent}
-use Rattle.receiver.proofs.Tests.{failed, held}
+use Rattle.seen.proofs.Tests.{failed, held}
 use borrow.Author.Needs.{needs}
 use Rattle.receiver.proofs.Pending.consistent.Statement.{statement}
 use Rattle.receiver.proofs.Pending.consistent.Tie as tie

@@ -2,7 +2,7 @@
 -- Assumes nothing.
 use borrow.Author.Tests.{lt-ltb, le-ltb}
 use Rattle.receiver.specs.Packet.{firstCause}
-use Rattle.receiver.proofs.Tests.{told, denied}
+use Rattle.seen.proofs.Tests.{told, denied}
 use borrow.Author.Needs.{needs}
 use Rattle.receiver.proofs.Receiver.first_cause.Statement.{statement}
 use Rattle.receiver.proofs.Receiver.first_cause.Tie as tie

@@ -2,7 +2,7 @@
 -- Assumes nothing.
 use borrow.Author.Tests.{eq-eqb, ne-eqb}
 use Rattle.receiver.specs.Calls.{immediateCall, immediateRefusal}
-use Rattle.receiver.proofs.Tests.{failed, held}
+use Rattle.seen.proofs.Tests.{failed, held}
 use borrow.Author.Needs.{needs}
 use Rattle.receiver.proofs.Receiver.immediate.Statement.{statement}
 use Rattle.receiver.proofs.Receiver.immediate.Tie as tie

@@ -2,7 +2,7 @@
 -- Assumes nothing.
 use Rattle.receiver.specs.Calls.{openCall, openRefusal, opened}
 use Rattle.receiver.proofs.Clauses.{allowed-below}
-use Rattle.receiver.proofs.Tests.{failed, held}
+use Rattle.seen.proofs.Tests.{failed, held}
 use borrow.Author.Needs.{needs}
 use Rattle.receiver.proofs.Receiver.open.Statement.{statement}
 use Rattle.receiver.proofs.Receiver.open.Tie as tie

@@ -6,7 +6,7 @@ use native.Mathlib.Omega.{arith}
 use borrow.Author.Tests.{leb-true}
 use Rattle.wire.specs.Numbers.{limit}
 use Rattle.receiver.specs.Packet.{packetCall, packetRefusal}
-use Rattle.receiver.proofs.Tests.{failed, held}
+use Rattle.seen.proofs.Tests.{failed, held}
 use Rattle.receiver.proofs.Standing.{refused, accepted}
 use borrow.Author.Needs.{needs}
 use Rattle.receiver.proofs.Receiver.packet.Statement.{statement}

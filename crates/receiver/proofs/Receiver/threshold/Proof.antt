@@ -4,7 +4,7 @@ use native.Mathlib.Omega.{arith}
 use borrow.Author.Tests.{lt-ltb, le-ltb, leb-true}
 use Rattle.wire.specs.Numbers.{limit}
 use Rattle.receiver.specs.Calls.{thresholdCall, thresholdVerdict, agreedAfter}
-use Rattle.receiver.proofs.Tests.{failed, held}
+use Rattle.seen.proofs.Tests.{failed, held}
 use borrow.Author.Needs.{needs}
 use Rattle.receiver.proofs.Receiver.threshold.Statement.{statement}
 use Rattle.receiver.proofs.Receiver.threshold.Tie as tie

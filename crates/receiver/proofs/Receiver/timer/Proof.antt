@@ -2,7 +2,7 @@
 -- Assumes nothing.
 use mathlib.Core.Path.{sym, ap}
 use Rattle.receiver.specs.Calls.{timerCall, timerRefusal, withCause}
-use Rattle.receiver.proofs.Tests.{failed, held, told, denied}
+use Rattle.seen.proofs.Tests.{failed, held, told, denied}
 use Rattle.receiver.proofs.Standing.{same}
 use borrow.Author.Needs.{needs}
 use Rattle.receiver.proofs.Receiver.timer.Statement.{statement}

@@ -11,12 +11,12 @@ returns : tie.Need-returns
 unfolding timerDue
 returns c = rw (le-ltb 0 (c .before .before .before .args .self .pending .count) (omega arith))
 
-less-requires : tie.Need-less-requires
-less-requires c κs = search needs
+minus-or-zero-requires : tie.Need-minus-or-zero-requires
+minus-or-zero-requires c κs = search needs
 
 returns-2 : tie.Need-returns-2
 unfolding timerDue
-returns-2 c = rw (lt-ltb 0 (c .before .before .before .before .before .before .args .self .pending .count) (omega arith), c .before .less .ensures)
+returns-2 c = rw (lt-ltb 0 (c .before .before .before .before .before .before .args .self .pending .count) (omega arith), c .before .minus-or-zero .ensures)
 
 pub timer-due-spec : {M : Type 1} → statement M
-timer-due-spec = tie.close (tie.spec returns less-requires returns-2)
+timer-due-spec = tie.close (tie.spec returns minus-or-zero-requires returns-2)

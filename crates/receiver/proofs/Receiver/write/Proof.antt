@@ -1,27 +1,14 @@
--- `receiver::Receiver::write` meets its contract: the refusals in the definition's order, and then the frame that `kept` and `store` make.
+-- `receiver::Receiver::write` meets its contract: the rest of the record is tested, and what `write_ack` answers decides.
 -- Assumes nothing.
-use mathlib.Core.Path.{_≡_, _∙_}
-use mathlib.Core.Bool.{true}
-use native.Mathlib.Omega.{arith}
+use mathlib.Core.Path.{_∙_}
 use borrow.Author.Needs.{needs}
-use Rattle.receiver.specs.Record.{small, consistent}
-use Rattle.receiver.proofs.Tests.{failed, held}
-use Rattle.receiver.proofs.Written.{consistent-seen, some-end, gives-one, gives-five, gives-eight, refused, small-delay, wrote-none, some-kept, wrote-frame}
+use Rattle.seen.proofs.Tests.{failed, held}
+use Rattle.receiver.proofs.Written.{refused-first, wrote-refusal, wrote-frame}
 use Rattle.receiver.proofs.Receiver.write.Statement.{statement}
 use Rattle.receiver.proofs.Receiver.write.Tie as tie
 
--- the entry, from the test of the time, and what the tests so far said
-abbrev entry : tie.Else2 → tie.Start
-entry c = c .before .before .before .before .before
-
-whole : (c : tie.Else2) → consistent (entry c .args .self) ≡ true
-whole c = held (c .before .before .before .consistent .ensures) (c .before .before .if1 .left)
-
-timely : (c : tie.Else2) → small (entry c .args .time .0) ≡ true
-timely c = held (c .before .is-small .ensures) (c .if2 .left)
-
-consistent-requires : tie.Need-consistent-requires
-consistent-requires c κs = search needs
+rest-consistent-requires : tie.Need-rest-consistent-requires
+rest-consistent-requires c κs = search needs
 
 refused-requires : tie.Need-refused-requires
 refused-requires c κs = search needs
@@ -30,104 +17,52 @@ returns : tie.Need-returns
 returns c =
     let i = c .before in
     let a = i .before .before .before .args in
-    let w = refused (a .self) (a .time) (a .buf .now) 0 (gives-one _ _ _ (failed (i .before .consistent .ensures) (i .if1 .taken))) in
+    let w = refused-first (a .self) (a .time) (a .buf .now) (failed (i .before .rest-consistent .ensures) (i .if1 .taken)) in
     (c .refused .ensures ∙ w .0, w .1)
 
-is-small-requires : tie.Need-is-small-requires
-is-small-requires c κs = search needs
+write-ack-requires : tie.Need-write-ack-requires
+write-ack-requires c κs = search needs
 
 refused-requires-2 : tie.Need-refused-requires-2
 refused-requires-2 c κs = search needs
 
+same-length : tie.Need-same-length
+same-length c = search needs
+
 returns-2 : tie.Need-returns-2
 returns-2 c =
     let i = c .before in
-    let a = i .before .before .before .before .before .args in
-    let w = refused (a .self) (a .time) (a .buf .now) 4
-    (gives-five _ _ _ (held (i .before .before .before .consistent .ensures) (i .before .before .if1 .left)) (failed (i .before .is-small .ensures) (i .if2 .taken))) in
+    let k = i .before .before .before .before in
+    let s = k .before .before .before in
+    let a = s .before .before .before .args in
+    let w = wrote-refusal (a .self) (a .time) (a .buf .now) (held (s .before .rest-consistent .ensures) (s .if1 .left)) (k .write-ack .ensures .0) (k .write-ack .ensures .1) (i .if2 .taken) in
     (c .refused2 .ensures ∙ w .0, w .1)
-
-refused-requires-3 : tie.Need-refused-requires-3
-refused-requires-3 c κs = search needs
-
-returns-3 : tie.Need-returns-3
-returns-3 c =
-    let i = c .before in
-    let k = i .before .before .before in
-    let a = entry k .args in
-    let w = refused (a .self) (a .time) (a .buf .now) 7 (gives-eight _ _ _ (whole k) (timely k) (i .if3 .taken)) in
-    (c .refused3 .ensures ∙ w .0, w .1)
-
-less-requires : tie.Need-less-requires
-less-requires c κs = search needs
-
-first-size-requires : tie.Need-first-size-requires
-first-size-requires c κs = search needs
-
-kept-requires : tie.Need-kept-requires
-kept-requires c κs =
-    let l = c .before in
-    let k = l .before .before .before .before in
-    let a = entry k .args in (
-      consistent-seen _ (whole k),
-      some-end (l .before .if3 .left),
-      small-delay (a .self) (a .time) (a .buf .now) (whole k) (timely k) (l .before .if3 .left) (l .less .ensures),
-      omega (arith, entry k .good .1 .1 .0 .1),
-      c .first-size .ensures,
-    )
-
-refused-requires-4 : tie.Need-refused-requires-4
-refused-requires-4 c κs = search needs
-
-returns-4 : tie.Need-returns-4
-returns-4 c =
-    let i = c .before in
-    let l = i .before .before .before in
-    let k = l .before .before .before .before in
-    let a = entry k .args in
-    let w = wrote-none (a .self) (a .time) (a .buf .now) (whole k) (timely k) (l .before .if3 .left) (l .less .ensures) (i .before .kept .ensures) (i .if4 .taken) in
-    (c .refused4 .ensures ∙ w .0, w .1)
-
-store-requires : tie.Need-store-requires
-store-requires c κs =
-    let l = c .before .before .before .before in
-    let k = l .before .before .before .before in
-    let a = entry k .args in
-    let m = some-kept (a .self) (a .time) (a .buf .now) (whole k) (timely k) (l .before .if3 .left) (l .less .ensures) (c .before .before .kept .ensures) (c .before .if4 .left) in
-    (consistent-seen _ (whole k), some-end (l .before .if3 .left), small-delay (a .self) (a .time) (a .buf .now) (whole k) (timely k) (l .before .if3 .left) (l .less .ensures), m .0, m .1, m .2, c .before .before .before .first-size .ensures)
 
 written-requires : tie.Need-written-requires
 written-requires c κs = search needs
 
-same-length : tie.Need-same-length
-same-length c = search needs
+same-length-2 : tie.Need-same-length-2
+same-length-2 c = search needs
 
-returns-5 : tie.Need-returns-5
-returns-5 c =
-    let s = c .before .before .before in
-    let l = s .before .before .before .before .before in
-    let k = l .before .before .before .before in
-    let a = entry k .args in
-    wrote-frame (a .self) (a .time) (a .buf .now) (whole k) (timely k) (l .before .if3 .left) (l .less .ensures) (s .before .before .before .kept .ensures) (s .before .before .if4 .left) (s .store .ensures .0) (s .store .ensures .1) (c .written .ensures)
+returns-3 : tie.Need-returns-3
+returns-3 c =
+    let i = c .before in
+    let k = i .before .before .before .before in
+    let s = k .before .before .before in
+    let a = s .before .before .before .args in
+    wrote-frame (a .self) (a .time) (a .buf .now) (held (s .before .rest-consistent .ensures) (s .if1 .left)) (k .write-ack .ensures .0) (k .write-ack .ensures .1) (c .written .ensures) (i .if2 .left)
 
 pub write-spec : {M : Type 1} → statement M
 write-spec =
     tie.close
     (tie.spec
-    consistent-requires
+    rest-consistent-requires
     refused-requires
     returns
-    is-small-requires
+    write-ack-requires
     refused-requires-2
-    returns-2
-    refused-requires-3
-    returns-3
-    less-requires
-    first-size-requires
-    kept-requires
-    refused-requires-4
-    returns-4
-    store-requires
-    written-requires
     same-length
-    returns-5)
+    returns-2
+    written-requires
+    same-length-2
+    returns-3)

@@ -8,7 +8,7 @@ use borrow.Author.Tests.{eqb-false, not-true, not-false}
 use denote.Ref.{now}
 use lib.ListN.{length, take, drop}
 use lib.Seq.{length-take-le}
-use Rattle.report.specs.Entries.{entriesGood}
+use Rattle.entries.specs.Entries.{entriesGood}
 use Rattle.report.proofs.Whole.{found-stopped, stopped-judged, too-few, broken, behind, accepted}
 use borrow.Author.Needs.{needs}
 use Rattle.report.proofs.reader.judge_report.Statement.{statement}

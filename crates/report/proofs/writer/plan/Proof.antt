@@ -49,31 +49,31 @@ returns-4 c =
     let y = sym (c .before .before .entries-fault .ensures) ∙ c .before .if2 .left in
     plan-room (now (a .numbers)) (now (a .entries)) (a .room) (b .0) z y (omega (arith, b .1, c .if3 .taken))
 
-at-most-requires : tie.Need-at-most-requires
-at-most-requires c κs = search needs
+sub-fitting : tie.Need-sub-fitting
+sub-fitting c = search needs
 
-kept-requires : tie.Need-kept-requires
-kept-requires c κs = search needs
+fitting-requires : tie.Need-fitting-requires
+fitting-requires c κs = search needs
 
 width-requires : tie.Need-width-requires
 width-requires c κs = search needs
 
 add-t12 : tie.Need-add-t12
-add-t12 c = let f = plan-fits _ _ _ _ _ (c .before .before .before .if3 .left) (c .before .kept .ensures) (c .width .ensures) in omega (arith, f, c .before .before .before .before .before .before .before .before .before .before .before .before .before .before .fits .room)
+add-t12 c = let f = plan-fits _ _ _ _ _ (c .before .before .if3 .left) (c .before .fitting .ensures) (c .width .ensures) in omega (arith, f, c .before .before .before .before .before .before .before .before .before .before .before .before .before .fits .room)
 
-mul-t14 : tie.Need-mul-t14
-mul-t14 c = let f = plan-fits _ _ _ _ _ (c .before .before .before .if3 .left) (c .before .kept .ensures) (c .width .ensures) in omega (arith, f, c .before .before .before .before .before .before .before .before .before .before .before .before .before .before .fits .room)
+mul-t11 : tie.Need-mul-t11
+mul-t11 c = let f = plan-fits _ _ _ _ _ (c .before .before .if3 .left) (c .before .fitting .ensures) (c .width .ensures) in omega (arith, f, c .before .before .before .before .before .before .before .before .before .before .before .before .before .fits .room)
 
-add-t15 : tie.Need-add-t15
-add-t15 c = let f = plan-fits _ _ _ _ _ (c .before .before .before .if3 .left) (c .before .kept .ensures) (c .width .ensures) in omega (arith, f, c .before .before .before .before .before .before .before .before .before .before .before .before .before .before .fits .room)
+add-t14 : tie.Need-add-t14
+add-t14 c = let f = plan-fits _ _ _ _ _ (c .before .before .if3 .left) (c .before .fitting .ensures) (c .width .ensures) in omega (arith, f, c .before .before .before .before .before .before .before .before .before .before .before .before .before .fits .room)
 
 returns-5 : tie.Need-returns-5
 returns-5 c =
-    let a = c .before .before .before .before .before .before .before .before .before .before .before .before .before .before .args in
-    let b = length-bytes (now (a .numbers)) _ (sym (c .before .before .before .before .before .before .before .before .before .head .given .1) ∙ c .before .before .before .before .before .before .before .before .before .before .before .length-of .ensures) in
-    let z = sym (c .before .before .before .before .before .before .before .first-fault .ensures) ∙ c .before .before .before .before .before .before .if1 .left in
-    let y = sym (c .before .before .before .before .before .entries-fault .ensures) ∙ c .before .before .before .before .if2 .left in
-    plan-done (now (a .numbers)) (now (a .entries)) (a .room) (b .0) z y _ _ _ _ (b .1) (c .before .before .before .if3 .left) (c .before .before .at-most .ensures) (c .before .kept .ensures) (c .width .ensures)
+    let a = c .before .before .before .before .before .before .before .before .before .before .before .before .before .args in
+    let b = length-bytes (now (a .numbers)) _ (sym (c .before .before .before .before .before .before .before .before .head .given .1) ∙ c .before .before .before .before .before .before .before .before .before .before .length-of .ensures) in
+    let z = sym (c .before .before .before .before .before .before .first-fault .ensures) ∙ c .before .before .before .before .before .if1 .left in
+    let y = sym (c .before .before .before .before .entries-fault .ensures) ∙ c .before .before .before .if2 .left in
+    plan-done (now (a .numbers)) (now (a .entries)) (a .room) (b .0) z y _ _ _ (b .1) (c .before .before .if3 .left) (c .before .fitting .ensures) (c .width .ensures)
 
 pub plan-spec : {M : Type 1} → statement M
 plan-spec =
@@ -88,10 +88,10 @@ plan-spec =
     entries-fault-requires
     returns-3
     returns-4
-    at-most-requires
-    kept-requires
+    sub-fitting
+    fitting-requires
     width-requires
     add-t12
-    mul-t14
-    add-t15
+    mul-t11
+    add-t14
     returns-5)

@@ -1,0 +1,264 @@
+/* The receiver: each call on one record, and the answer of the archive handed back. The timed traffic, sequences of any
+ * calls, some on spoiled records, lists of packets, and windows with hundreds of ranges. */
+#include <string.h>
+
+#include "checks.h"
+#include "compare.h"
+#include "inputs.h"
+#include "sides.h"
+
+enum { SEQUENCES = 2000, CALLS = 200, LISTS = 50 };
+
+static lumbixet_answer compare_packet(const lumbixet_receiver *r, uint64_t number, uint64_t time, bool eliciting,
+                                      bool marked)
+{
+    lumbixet_answer a = archive.packet(*r, number, time, eliciting, marked);
+    lumbixet_answer b = plain.packet(*r, number, time, eliciting, marked);
+    check_answer(&a, &b, "packet");
+    return a;
+}
+
+static lumbixet_answer compare_stream(const lumbixet_receiver *r, const uint64_t *list, size_t length, uint64_t time,
+                                      bool eliciting, bool marked)
+{
+    lumbixet_answer a = archive.stream(*r, list, length, time, eliciting, marked);
+    lumbixet_answer b = plain.stream(*r, list, length, time, eliciting, marked);
+    check_answer(&a, &b, "stream");
+    return a;
+}
+
+static lumbixet_answer compare_timer(const lumbixet_receiver *r, uint64_t time)
+{
+    lumbixet_answer a = archive.timer(*r, time);
+    lumbixet_answer b = plain.timer(*r, time);
+    check_answer(&a, &b, "timer");
+    return a;
+}
+
+static lumbixet_answer compare_immediate(const lumbixet_receiver *r)
+{
+    lumbixet_answer a = archive.immediate(*r);
+    lumbixet_answer b = plain.immediate(*r);
+    check_answer(&a, &b, "immediate");
+    return a;
+}
+
+static lumbixet_answer compare_threshold(const lumbixet_receiver *r, uint64_t sequence, uint64_t threshold,
+                                         uint64_t delay, uint64_t reordering)
+{
+    lumbixet_answer a = archive.threshold(*r, sequence, threshold, delay, reordering);
+    lumbixet_answer b = plain.threshold(*r, sequence, threshold, delay, reordering);
+    check_answer(&a, &b, "threshold");
+    return a;
+}
+
+static lumbixet_answer compare_write(const lumbixet_receiver *r, uint64_t time, size_t room)
+{
+    fill_buffers();
+    lumbixet_wrote a = archive.write(*r, time, left, room);
+    lumbixet_wrote b = plain.write(*r, time, right, room);
+    check(a.result == b.result && a.length == b.length && same_record(&a.next, &b.next) && same_buffers(), "write");
+    return (lumbixet_answer){a.result, a.next};
+}
+
+static void compare_traffic(const struct traffic *t)
+{
+    lumbixet_receiver record = t->start;
+    for (size_t k = WARM; k < WARM + PACKETS; k++) {
+        record = compare_packet(&record, t->numbers[k], arrival(k), true, false).next;
+        if (k % BLOCK == BLOCK - 1)
+            record = compare_write(&record, arrival(k), FRAME_ROOM).next;
+    }
+}
+
+/* The timed blocks, each in one call. */
+static void compare_blocks(const struct traffic *t)
+{
+    lumbixet_receiver record = t->start;
+    for (size_t block = WARM; block < WARM + PACKETS; block += BLOCK) {
+        uint64_t time = arrival(block + BLOCK - 1);
+        record = compare_stream(&record, t->numbers + block, BLOCK, time, true, false).next;
+        record = compare_write(&record, time, FRAME_ROOM).next;
+    }
+}
+
+/* A packet that is not ack-eliciting once in so many, and that is marked once in so many. */
+static lumbixet_answer compare_some_packet(const lumbixet_receiver *r, uint64_t number, uint64_t time,
+                                           uint64_t once_not_eliciting, uint64_t once_marked)
+{
+    bool eliciting = below(once_not_eliciting) != 0;
+    bool marked = below(once_marked) == 0;
+    return compare_packet(r, number, time, eliciting, marked);
+}
+
+/* A threshold call near the record's own sequence and minimum. */
+static lumbixet_answer compare_some_threshold(const lumbixet_receiver *r)
+{
+    uint64_t sequence = r->sequence + below(3) - 1;
+    uint64_t threshold = below(40);
+    uint64_t delay = r->minimum + below(9) - 1;
+    uint64_t reordering = below(8) ? below(7) : any_number();
+    return compare_threshold(r, sequence, threshold, delay, reordering);
+}
+
+/* Any call with numbers near those of the record, or of any size. */
+static lumbixet_answer compare_any_call(const lumbixet_receiver *r)
+{
+    uint64_t time = below(16) ? r->arrived + below(3000) - 500 : any_number();
+    uint64_t up = below(12);
+    uint64_t near = r->end + up - below(8);
+    uint64_t v[4];
+    switch (below(16)) {
+    case 0:
+        return compare_timer(r, r->pending_first + r->delay + below(3) - 1);
+    case 1:
+        return compare_write(r, time, below(4) ? below(64) : FRAME_ROOM);
+    case 2:
+        return below(8) ? compare_timer(r, time) : compare_immediate(r);
+    case 3:
+        return compare_some_threshold(r);
+    case 4:
+        any_numbers(v, 4);
+        return compare_threshold(r, v[0], v[1], v[2], v[3]);
+    case 5:
+        return compare_some_packet(r, r->end + below(1500) - 1100, time, 4, 2);
+    case 6:
+        return compare_some_packet(r, below(8) ? near : any_number(), time, 4, 2);
+    default:
+        return compare_some_packet(r, near, time, 8, 16);
+    }
+}
+
+/* Any number, one beside the end or the maximum, or one as small as a cause. */
+static uint64_t spoiled_value(const lumbixet_receiver *r)
+{
+    switch (below(4)) {
+    case 0:
+        return any_number();
+    case 1:
+        return r->end + 1 - below(3);
+    case 2:
+        return r->maximum * 1000 + 1 - below(3);
+    default:
+        return below(8);
+    }
+}
+
+/* The record with one field made up: a word of it taken at random. */
+static lumbixet_receiver spoiled(lumbixet_receiver r)
+{
+    size_t word = below(sizeof r / 8);
+    uint64_t value = spoiled_value(&r);
+    if (word == offsetof(lumbixet_receiver, marked) / 8)
+        r.marked = !r.marked;
+    else
+        memcpy((uint8_t *)&r + 8 * word, &value, 8);
+    return r;
+}
+
+static void compare_sequence(void)
+{
+    static const uint64_t limits[4] = {40, 7, 20000, 5000};
+    uint64_t v[4];
+    for (size_t i = 0; i < 4; i++)
+        v[i] = below(limits[i]);
+    uint64_t odd = below(32);
+    if (odd < 4)
+        v[odd] = any_number();
+    lumbixet_answer a = archive.open(v[0], v[1], v[2], v[3]);
+    lumbixet_answer b = plain.open(v[0], v[1], v[2], v[3]);
+    check_answer(&a, &b, "open");
+    lumbixet_receiver record = a.next;
+    for (size_t i = 0; i < CALLS; i++) {
+        lumbixet_receiver made_up = i > 2 && below(16) ? record : spoiled(record);
+        lumbixet_answer answer = compare_any_call(&made_up);
+        if (answer.result != LUMBIXET_INCONSISTENT)
+            record = answer.next;
+    }
+}
+
+/* A list that goes on from the record with a gap or a step back now and then, and that has, in half of the lists, a
+ * number from anywhere at some place: many of these are refused. */
+static size_t make_list(uint64_t *list, const lumbixet_receiver *r)
+{
+    size_t length = below(BLOCK + 1);
+    uint64_t number = r->end;
+    for (size_t i = 0; i < length; i++) {
+        uint64_t kind = below(64);
+        list[i] = kind == 0 ? number - 1 - below(1100) : number;
+        if (kind)
+            number += kind < 4 ? 2 : 1;
+    }
+    if (length && below(2)) {
+        size_t place = below(length);
+        list[place] = below(4) ? number - 1 - below(1100) : any_number();
+    }
+    return length;
+}
+
+static void compare_lists(void)
+{
+    uint64_t threshold = below(40);
+    lumbixet_receiver record = archive.open(threshold, below(7), 25, 1000).next;
+    uint64_t list[BLOCK];
+    for (size_t i = 0; i < LISTS; i++) {
+        lumbixet_receiver made_up = below(16) ? record : spoiled(record);
+        size_t length = make_list(list, &made_up);
+        uint64_t time = below(16) ? record.arrived + below(3000) : any_number();
+        bool eliciting = below(8) != 0;
+        bool marked = below(8) == 0;
+        lumbixet_answer answer = compare_stream(&made_up, list, length, time, eliciting, marked);
+        if (answer.result != LUMBIXET_INCONSISTENT)
+            record = answer.next;
+        if (i % 8 == 7)
+            record = compare_write(&record, record.arrived, FRAME_ROOM).next;
+    }
+}
+
+/* Windows with every number missing or there at random have hundreds of ranges: each room up to 1,000 cuts some off. */
+static void compare_dense_windows(void)
+{
+    lumbixet_receiver record = acks[ONE_RANGE].records[0];
+    for (size_t room = 0; room <= 1000; room++) {
+        for (size_t i = 0; i < 16; i++) {
+            uint64_t word = draw();
+            record.window[i] = word & draw();
+        }
+        record.window[15] |= UINT64_C(1) << 63;
+        for (size_t less = 0; less < 4 && less <= room; less++)
+            compare_write(&record, acks[ONE_RANGE].time, room - less);
+    }
+}
+
+/* A made-up H at each place of a window with losses, and packets at it and beside it, under each kind of R. */
+static void compare_made_up_highest(void)
+{
+    for (uint64_t reordering = 0; reordering < 5; reordering++) {
+        lumbixet_receiver record = traffic[LOSS][0].start;
+        record.reordering = reordering;
+        for (uint64_t down = 1; down < 1024; down++) {
+            record.highest = record.end - down;
+            for (uint64_t number = record.highest - 2; number <= record.highest; number++)
+                compare_packet(&record, number, record.arrived, true, false);
+        }
+    }
+}
+
+void compare_receiver(void)
+{
+    for (int pattern = 0; pattern < PATTERNS; pattern++)
+        for (int r = 0; r < 2; r++) {
+            compare_traffic(&traffic[pattern][r]);
+            compare_blocks(&traffic[pattern][r]);
+        }
+    for (int kind = 0; kind < ACK_KINDS; kind++)
+        for (size_t v = 0; v < VARIANTS; v++)
+            for (size_t room = 0; room <= 300; room++)
+                compare_write(&acks[kind].records[v], acks[kind].time, room);
+    compare_dense_windows();
+    compare_made_up_highest();
+    for (size_t i = 0; i < SEQUENCES; i++) {
+        compare_sequence();
+        compare_lists();
+    }
+}

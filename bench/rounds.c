@@ -1,0 +1,166 @@
+#include "rounds.h"
+
+#include "clock.h"
+#include "inputs.h"
+
+enum { CALLS = 2048 };
+
+/* Every answer goes in here, so that no call can be left out. */
+static volatile uint64_t sink;
+
+/* Each round has numbers of its own, else the processor would learn the order of their lengths. */
+double read_numbers(const struct side *side, int kind, int round)
+{
+    (void)kind;
+    uint64_t sum = 0;
+    size_t at = numbers.starts[round % PARTS];
+    uint64_t from = now();
+    for (size_t i = 0; i < PART; i++) {
+        lumbixet_number number = side->read_number(numbers.wire, numbers.length, at);
+        sum += number.value;
+        at = number.next;
+    }
+    uint64_t passed = since(from);
+    sink += sum;
+    return (double)passed / PART;
+}
+
+double put_numbers(const struct side *side, int kind, int round)
+{
+    (void)kind;
+    static uint8_t buffer[PART * 8];
+    const uint64_t *values = numbers.values + round % PARTS * PART;
+    size_t at = 0;
+    uint64_t from = now();
+    for (size_t i = 0; i < PART; i++)
+        at = side->put_number(buffer, sizeof buffer, at, values[i]).next;
+    uint64_t passed = since(from);
+    sink += at + buffer[at / 2];
+    return (double)passed / PART;
+}
+
+double read_acks(const struct side *side, int kind, int round)
+{
+    (void)round;
+    const struct acks *a = &acks[kind];
+    uint64_t ranges[128];
+    uint64_t sum = 0;
+    uint64_t from = now();
+    for (size_t i = 0; i < CALLS; i++) {
+        size_t v = i % VARIANTS;
+        lumbixet_ack ack = side->read_ack(a->frames[v], a->lengths[v], ranges, 128);
+        sum += ack.ranges + ranges[2 * ack.ranges - 1];
+    }
+    uint64_t passed = since(from);
+    sink += sum;
+    return (double)passed / CALLS;
+}
+
+double write_acks(const struct side *side, int kind, int round)
+{
+    (void)round;
+    const struct acks *a = &acks[kind];
+    uint8_t frame[FRAME_ROOM];
+    uint64_t sum = 0;
+    uint64_t from = now();
+    for (size_t i = 0; i < CALLS; i++) {
+        lumbixet_wrote wrote = side->write(a->records[i % VARIANTS], a->time, frame, sizeof frame);
+        sum += wrote.length + frame[wrote.length - 1] + wrote.next.acknowledged;
+    }
+    uint64_t passed = since(from);
+    sink += sum;
+    return (double)passed / CALLS;
+}
+
+/* Blocks of packets are timed; the write between two blocks is not. Each answer is the next call's record, as a host
+ * would assign it; the two are aligned, so that where they lie makes no difference between rows. */
+double take_packets(const struct side *side, int kind, int round)
+{
+    (void)round;
+    const struct traffic *t = &traffic[kind / 2][kind % 2];
+    _Alignas(64) lumbixet_answer a = {0, t->start};
+    _Alignas(64) lumbixet_answer b;
+    uint8_t frame[FRAME_ROOM];
+    uint64_t passed = 0;
+    for (size_t block = WARM; block < WARM + PACKETS; block += BLOCK) {
+        uint64_t from = now();
+        for (size_t k = block; k < block + BLOCK; k += 2) {
+            b = side->packet(a.next, t->numbers[k], arrival(k), true, false);
+            a = side->packet(b.next, t->numbers[k + 1], arrival(k + 1), true, false);
+        }
+        passed += since(from);
+        sink += a.next.cause;
+        a.next = side->write(a.next, arrival(block + BLOCK - 1), frame, sizeof frame).next;
+    }
+    return (double)passed / PACKETS;
+}
+
+/* The same blocks, each in one call, and so at one time: nanoseconds for a packet. */
+double stream_packets(const struct side *side, int kind, int round)
+{
+    (void)round;
+    const struct traffic *t = &traffic[kind / 2][kind % 2];
+    _Alignas(64) lumbixet_answer a = {0, t->start};
+    uint8_t frame[FRAME_ROOM];
+    uint64_t passed = 0;
+    for (size_t block = WARM; block < WARM + PACKETS; block += BLOCK) {
+        uint64_t time = arrival(block + BLOCK - 1);
+        uint64_t from = now();
+        a = side->stream(a.next, t->numbers + block, BLOCK, time, true, false);
+        passed += since(from);
+        sink += a.next.cause;
+        a.next = side->write(a.next, time, frame, sizeof frame).next;
+    }
+    return (double)passed / PACKETS;
+}
+
+/* The record waits for an ACK and the delay has not passed, as most looks at a timer find it. */
+double look_at_timer(const struct side *side, int kind, int round)
+{
+    (void)kind;
+    (void)round;
+    const struct traffic *t = &traffic[IN_ORDER][0];
+    _Alignas(64) lumbixet_answer a = plain.packet(t->start, t->numbers[WARM], arrival(WARM), true, false);
+    _Alignas(64) lumbixet_answer b;
+    uint64_t from = now();
+    for (size_t i = 0; i < CALLS; i += 2) {
+        b = side->timer(a.next, arrival(WARM) + i);
+        a = side->timer(b.next, arrival(WARM) + i + 1);
+    }
+    uint64_t passed = since(from);
+    sink += a.result + a.next.cause;
+    return (double)passed / CALLS;
+}
+
+double read_reports(const struct side *side, int kind, int round)
+{
+    (void)kind;
+    (void)round;
+    uint64_t sum = 0;
+    uint64_t from = now();
+    for (size_t i = 0; i < CALLS; i++) {
+        lumbixet_report report = side->read_report(reports.bytes[i % VARIANTS], reports.lengths[i % VARIANTS]);
+        sum += report.header.total + report.header.entries;
+    }
+    uint64_t passed = since(from);
+    sink += sum;
+    return (double)passed / CALLS;
+}
+
+double write_reports(const struct side *side, int kind, int round)
+{
+    (void)kind;
+    (void)round;
+    uint8_t buffer[FRAME_ROOM];
+    uint64_t sum = 0;
+    uint64_t from = now();
+    for (size_t i = 0; i < CALLS; i++) {
+        size_t v = i % VARIANTS;
+        lumbixet_written written = side->write_report(buffer, sizeof buffer, reports.headers[v], reports.records[v],
+                                                      sizeof reports.records[v]);
+        sum += written.next + buffer[written.next - 1];
+    }
+    uint64_t passed = since(from);
+    sink += sum;
+    return (double)passed / CALLS;
+}

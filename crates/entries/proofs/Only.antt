@@ -1,0 +1,29 @@
+-- Only one: two results that meet the contract of a public call, as its source states it, are equal.
+-- Assumes nothing.
+use mathlib.Core.Path.{sym, _∙_}
+use Rattle.wire.proofs.Only.{OneAnswer}
+use Rattle.entries.proofs.one.read_entry.Reads as read-entry
+use Rattle.entries.proofs.one.read_entry.Kinds as read-entry-kinds
+use Rattle.entries.proofs.row.entries_good.Reads as entries-good
+use Rattle.entries.proofs.row.entries_good.Kinds as entries-good-kinds
+use Rattle.entries.proofs.row.entries_fault.Reads as entries-fault
+use Rattle.entries.proofs.row.entries_fault.Kinds as entries-fault-kinds
+use Rattle.entries.proofs.fit.fitting.Reads as fitting
+use Rattle.entries.proofs.fit.fitting.Kinds as fitting-kinds
+use Rattle.entries.proofs.Entry.refusal.Reads as entry-refusal
+use Rattle.entries.proofs.Entry.refusal.Kinds as entry-refusal-kinds
+
+pub read-entry-one : OneAnswer 1 read-entry-kinds.ps read-entry-kinds.r read-entry.Post
+read-entry-one κs given x y s t p q = p ∙ sym q
+
+pub entries-good-one : OneAnswer 1 entries-good-kinds.ps entries-good-kinds.r entries-good.Post
+entries-good-one κs given x y s t p q = p ∙ sym q
+
+pub entries-fault-one : OneAnswer 1 entries-fault-kinds.ps entries-fault-kinds.r entries-fault.Post
+entries-fault-one κs given x y s t p q = p ∙ sym q
+
+pub fitting-one : OneAnswer 0 fitting-kinds.ps fitting-kinds.r fitting.Post
+fitting-one κs given x y s t p q = p ∙ sym q
+
+pub entry-refusal-one : OneAnswer 0 entry-refusal-kinds.ps entry-refusal-kinds.r entry-refusal.Post
+entry-refusal-one κs given x y s t p q = p ∙ sym q

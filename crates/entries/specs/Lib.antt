@@ -1,0 +1,5 @@
+pub mod Limits
+pub mod Entries
+pub mod Fitting
+pub mod Refusals
+pub mod Exactly

@@ -1,0 +1,9 @@
+-- The paper's number for each answer, 0 for accepted.
+use Prim.Native.Nat.{ℕ}
+use Rattle.entries.specs.declared.Entry.{Entry}
+use Rattle.entries.specs.declared.Entry.the-variants.{Record, Ends, Broken}
+
+abbrev pub entryRefusal : Entry → ℕ
+entryRefusal (Record object status age) = 0
+entryRefusal Ends = 2
+entryRefusal Broken = 12

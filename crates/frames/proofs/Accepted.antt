@@ -1,0 +1,151 @@
+-- What an accepted ACK tells: its ranges descend with a gap between, and in shortest form its bytes are the encoding of its numbers, since a whole walk's numbers stand in the bytes.
+-- Assumes nothing.
+use Prim.Native.Nat.{ℕ, zero, suc, _+_, _-_, _*_, _/_, _≤_}
+use mathlib.Core.Path.{_≡_, refl, sym, ap, _∙_, subst}
+use mathlib.Core.Bool.{Bool, true}
+use mathlib.Core.List.{List, [], _∷_}
+use native.Mathlib.Omega.{arith}
+use borrow.Author.Tests.{eqb-false, leb-true}
+use lib.Dec.{leb}
+use lib.ListN.{length, getD, take, drop}
+use lib.Seq.{take-at}
+use Rattle.wire.specs.Bytes.{splice, Octets}
+use Rattle.wire.specs.Numbers.{limit, widthOf, readNumber}
+use Rattle.wire.specs.Standing.{Stand, none, one}
+use Rattle.wire.specs.declared.Number.the-variants.{Value}
+use Rattle.wire.proofs.Accepted.{accepted-small}
+use Rattle.frames.specs.Types.{ackType}
+use Rattle.frames.specs.Ack.{Ranges, ended, before, below, rangesFrom, AckRead, refused, afterWalk, readRanges, readAck, gapsFrom, ackNumbers, RangesBelow, AckRanges}
+use Rattle.frames.specs.Refusals.{ackRefusal}
+use Rattle.frames.specs.EachWay.{AckTells, AckReadWrite}
+use Rattle.frames.specs.declared.Walk.{Walk}
+use Rattle.frames.specs.declared.Walk.the-variants.{Whole, Ends, BelowZero}
+use Rattle.frames.specs.declared.Ack.{Ack}
+use Rattle.frames.specs.declared.Ack.the-variants.{Frame, Ends as Cut, OtherType, BelowZero as Below, NoRoom}
+use Rattle.frames.proofs.Shortest.{field-read, test-held, type-read, encodes}
+
+-- ---- a walk that comes to its end
+
+-- what it found from at on: hi is the first range's largest, and count ranges come after it
+record Walked (s : List ℕ) (count at hi used : ℕ) (pairs : List ℕ) : Type 0 where
+  lo : ℕ
+  rest : List ℕ
+  made : pairs ≡ lo ∷ hi ∷ rest
+  holds : lo ≤ hi
+  descend : RangesBelow lo rest
+  many : length rest ≡ 2 * count
+  stand : Stand s at ((hi - lo) ∷ gapsFrom lo rest) used
+
+no-end : {w : Walk} {used : ℕ} → w ≡ Whole used → Ends ≡ w → ⊥
+no-end e h = let z : _≡_ {A = ℕ} 0 1 = cc in omega arith
+
+no-low : {w : Walk} {used : ℕ} → w ≡ Whole used → BelowZero ≡ w → ⊥
+no-low e h = let z : _≡_ {A = ℕ} 0 1 = cc in omega arith
+
+walk-of : {x y : Ranges} → x ≡ y → x .walk ≡ y .walk
+walk-of e = ap (λ (r : Ranges). r .walk) e
+
+-- a number stands, given what it was read as
+stands : (s : List ℕ) {at mid next v w : ℕ} {vs : List ℕ} → v ≡ w → readNumber s at ≡ Value v mid → Stand s mid vs next → Stand s at (w ∷ vs) next
+stands s {mid = mid} e r t = one (r ∙ ap (λ (x : ℕ). Value x mid) e) t
+
+walked : (count : ℕ) (s : List ℕ) (at hi used : ℕ) → rangesFrom count s at hi .walk ≡ Whole used → Walked s count at hi used (rangesFrom count s at hi .pairs)
+unfolding rangesFrom RangesBelow gapsFrom
+walked zero s at hi used e =
+    let r = field-read (readNumber s at) {y = rangesFrom zero s at hi} refl (λ h. no-end e (walk-of h)) in
+    let t = test-held (leb (r .0) hi) (r .3) (λ h. no-low e (walk-of h)) in
+    let l : r .0 ≤ hi = leb-true (r .0) hi (t .0) in
+    let w : Whole (r .1) ≡ Whole used = walk-of (t .1) ∙ e in
+    let u : r .1 ≡ used = cc in
+    record {
+      lo = hi - r .0;
+      rest = [];
+      made = sym (ap (λ (x : Ranges). x .pairs) (t .1));
+      holds = omega arith;
+      descend = tt;
+      many = refl;
+      stand = subst (Stand s at ((hi - (hi - r .0)) ∷ [])) u (stands s (omega arith) (r .2) none);
+    }
+walked (suc count) s at hi used e =
+    let r = field-read (readNumber s at) {y = rangesFrom (suc count) s at hi} refl (λ h. no-end e (walk-of h)) in
+    let t = test-held (leb (r .0) hi) (r .3) (λ h. no-low e (walk-of h)) in
+    let l : r .0 ≤ hi = leb-true (r .0) hi (t .0) in
+    let lo : ℕ = hi - r .0 in
+    let on : below s (r .1) lo (λ lower next. rangesFrom count s next lower) .walk ≡ Whole used = walk-of (t .1) ∙ e in
+    let g = field-read (readNumber s (r .1)) {y = below s (r .1) lo (λ lower next. rangesFrom count s next lower)} refl (λ h. no-end on (walk-of h)) in
+    let f = test-held (leb (g .0 + 2) lo) (g .3) (λ h. no-low on (walk-of h)) in
+    let m : g .0 + 2 ≤ lo = leb-true (g .0 + 2) lo (f .0) in
+    let i = walked count s (g .1) (lo - g .0 - 2) used (walk-of (f .1) ∙ on) in
+    record {
+      lo = lo;
+      rest = i .lo ∷ (lo - g .0 - 2) ∷ i .rest;
+      made = sym (ap (λ (x : Ranges). x .pairs) (t .1)) ∙ ap (λ (x : Ranges). lo ∷ hi ∷ x .pairs) (sym (f .1)) ∙ ap (λ (ps : List ℕ). lo ∷ hi ∷ ps) (i .made);
+      holds = omega arith;
+      descend = (i .holds, omega arith, i .descend);
+      many = omega (arith, i .many);
+      stand = stands s (omega arith) (r .2) (stands s (omega arith) (g .2) (i .stand));
+    }
+
+-- ---- the frame
+
+-- the numbers before the ranges, and the walk over these, say what the answer tells
+tells : (s xs pairs : List ℕ) (hi delay count end at1 at2 at3 : ℕ) → Octets s → readNumber s 0 ≡ Value ackType (widthOf ackType)
+    → readNumber s (widthOf ackType) ≡ Value hi at1 → readNumber s at1 ≡ Value delay at2 → readNumber s at2 ≡ Value count at3
+    → Walked s count at3 hi end pairs → AckTells s (take (2 * (count + 1)) (splice xs 0 pairs)) hi delay (count + 1) end
+unfolding AckRanges ackNumbers
+tells s xs pairs hi delay count end at1 at2 at3 o k a b c r =
+    let n : length pairs ≡ 2 * (count + 1) = omega (arith, ap length (r .made), r .many) in
+    let p : take (2 * (count + 1)) (splice xs 0 pairs) ≡ r .lo ∷ hi ∷ r .rest = take-at pairs (drop (0 + length pairs) xs) (2 * (count + 1)) n ∙ r .made in
+    let h : count ≡ length (r .rest) / 2 = omega (arith, r .many) in
+    let t : Stand s 0 (ackNumbers delay (r .lo ∷ hi ∷ r .rest)) end = one k (one a (one b (stands s h c (r .stand)))) in
+    subst (λ (ps : List ℕ). AckTells s ps hi delay (count + 1) end) (sym p)
+    (record {
+      many = omega (arith, r .many);
+      descend = (r .holds, accepted-small s (widthOf ackType) hi at1 o a, r .descend);
+      first = refl;
+      shortest = encodes o t;
+    })
+
+module _ (s xs : List ℕ) (y : AckRead) (ok : ackRefusal (y .answer) ≡ 0) where
+  -- the answer is no refusal
+  not : (a : Ack) → (ackRefusal a ≡ 0 → ⊥) → refused a xs ≡ y → ⊥
+  not a f h = f (ap (λ (r : AckRead). ackRefusal (r .answer)) h ∙ ok)
+
+  not-cut : refused Cut xs ≡ y → ⊥
+  not-cut = not Cut (eqb-false 2 0 refl)
+
+  -- so the walk came to its end, and there was room
+  answered : (at hi delay count : ℕ) → readRanges s at hi delay count xs ≡ y
+      → (end : ℕ) × (rangesFrom count s at hi .walk ≡ Whole end)
+      × (record { answer = Frame hi delay (count + 1) end; slice = splice xs 0 (rangesFrom count s at hi .pairs) } ≡ y)
+  unfolding readRanges
+  answered at hi delay count e = go (rangesFrom count s at hi .walk) refl e
+    where
+      go : (w : Walk) → rangesFrom count s at hi .walk ≡ w → afterWalk w hi delay count (rangesFrom count s at hi .pairs) xs ≡ y
+          → (end : ℕ) × (rangesFrom count s at hi .walk ≡ Whole end)
+          × (record { answer = Frame hi delay (count + 1) end; slice = splice xs 0 (rangesFrom count s at hi .pairs) } ≡ y)
+      go Ends t h = absurd (not-cut h)
+      go BelowZero t h = absurd (not Below (eqb-false 14 0 refl) h)
+      go (Whole end) t h = (end, t, test-held (leb (2 * (count + 1)) (length xs)) h (not NoRoom (eqb-false 9 0 refl)) .1)
+
+pub ack-read-write : AckReadWrite
+ack-read-write s xs l d ranges used o e =
+    let y : AckRead = readAck s xs in
+    let ok : ackRefusal (y .answer) ≡ 0 = ap ackRefusal e in
+    let k = type-read ackType s {y = y} _ refl (not-cut s xs y ok) (not s xs y ok OtherType (eqb-false 3 0 refl)) in
+    let a = field-read (readNumber s (widthOf ackType)) {y = y} (k .1) (not-cut s xs y ok) in
+    let b = field-read (readNumber s (a .1)) {y = y} (a .3) (not-cut s xs y ok) in
+    let c = field-read (readNumber s (b .1)) {y = y} (b .3) (not-cut s xs y ok) in
+    let w = answered s xs y ok (c .1) (a .0) (b .0) (c .0) (c .3) in
+    same (w .2) (tells s xs _ (a .0) (b .0) (c .0) (w .0) (a .1) (b .1) (c .1) o (k .0) (a .2) (b .2) (c .2) (walked (c .0) s (c .1) (a .0) (w .0) (w .1)))
+  where
+    same : {hi delay n end : ℕ} {ys : List ℕ} → record { answer = Frame hi delay n end; slice = ys } ≡ readAck s xs
+        → AckTells s (take (2 * n) ys) hi delay n end → AckTells s (take (2 * ranges) (readAck s xs .slice)) l d ranges used
+    same {hi} {delay} {n} {end} {ys} q t =
+        let f : Frame hi delay n end ≡ Frame l d ranges used = ap (λ (r : AckRead). r .answer) q ∙ e in
+        let h1 : hi ≡ l = cc in
+        let h2 : delay ≡ d = cc in
+        let h3 : n ≡ ranges = cc in
+        let h4 : end ≡ used = cc in
+        let h5 : ys ≡ readAck s xs .slice = ap (λ (r : AckRead). r .slice) q in
+        rw (h1, h2, h3, h4, h5) at t

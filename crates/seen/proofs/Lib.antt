@@ -1,0 +1,10 @@
+pub mod Tests
+pub mod Missing
+pub mod After
+pub mod Ranges
+pub mod Fitting
+pub mod Storing
+pub mod Written
+pub mod Maximal
+pub mod Emits
+pub mod Only

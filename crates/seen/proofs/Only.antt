@@ -1,0 +1,50 @@
+-- Only one: two results that meet the contract of a public function, as its source states it, are equal, and so are the lent buffers that they leave.
+-- Assumes nothing.
+use mathlib.Core.Path.{sym, _∙_}
+use denote.Ref.{now}
+use Rattle.wire.proofs.Only.{OneAnswer, OneBuffer}
+use Rattle.seen.proofs.numbers.is_small.Reads as is-small
+use Rattle.seen.proofs.numbers.is_small.Kinds as is-small-kinds
+use Rattle.seen.proofs.numbers.is_small_end.Reads as is-small-end
+use Rattle.seen.proofs.numbers.is_small_end.Kinds as is-small-end-kinds
+use Rattle.seen.proofs.numbers.minus_or_zero.Reads as minus-or-zero
+use Rattle.seen.proofs.numbers.minus_or_zero.Kinds as minus-or-zero-kinds
+use Rattle.seen.proofs.numbers.larger_of.Reads as larger-of
+use Rattle.seen.proofs.numbers.larger_of.Kinds as larger-of-kinds
+use Rattle.seen.proofs.Seen.consistent.Reads as consistent
+use Rattle.seen.proofs.Seen.consistent.Kinds as consistent-kinds
+use Rattle.seen.proofs.Seen.refusal.Reads as refusal
+use Rattle.seen.proofs.Seen.refusal.Kinds as refusal-kinds
+use Rattle.seen.proofs.Seen.with.Reads as marking
+use Rattle.seen.proofs.Seen.with.Kinds as marking-kinds
+use Rattle.seen.proofs.Seen.first_missing.Reads as first-missing
+use Rattle.seen.proofs.Seen.first_missing.Kinds as first-missing-kinds
+use Rattle.seen.proofs.Seen.write_ack.Reads as write-ack
+use Rattle.seen.proofs.Seen.write_ack.Kinds as write-ack-kinds
+
+pub is-small-one : OneAnswer 0 is-small-kinds.ps is-small-kinds.r is-small.Post
+is-small-one κs given x y s t p q = p ∙ sym q
+
+pub is-small-end-one : OneAnswer 0 is-small-end-kinds.ps is-small-end-kinds.r is-small-end.Post
+is-small-end-one κs given x y s t p q = p ∙ sym q
+
+pub minus-or-zero-one : OneAnswer 0 minus-or-zero-kinds.ps minus-or-zero-kinds.r minus-or-zero.Post
+minus-or-zero-one κs given x y s t p q = p ∙ sym q
+
+pub larger-of-one : OneAnswer 0 larger-of-kinds.ps larger-of-kinds.r larger-of.Post
+larger-of-one κs given x y s t p q = p ∙ sym q
+
+pub consistent-one : OneAnswer 0 consistent-kinds.ps consistent-kinds.r consistent.Post
+consistent-one κs given x y s t p q = p ∙ sym q
+
+pub refusal-one : OneAnswer 0 refusal-kinds.ps refusal-kinds.r refusal.Post
+refusal-one κs given x y s t p q = p ∙ sym q
+
+pub marking-one : OneAnswer 0 marking-kinds.ps marking-kinds.r marking.Post
+marking-one κs given x y s t p q = p ∙ sym q
+
+pub first-missing-one : OneAnswer 0 first-missing-kinds.ps first-missing-kinds.r first-missing.Post
+first-missing-one κs given x y s t p q = p ∙ sym q
+
+pub write-ack-one : OneBuffer 1 write-ack-kinds.ps write-ack-kinds.r (λ κs s. now (s .1 .1 .0)) write-ack.Post
+write-ack-one κs given x y s t p q = (p .0 ∙ sym (q .0), p .1 ∙ sym (q .1))

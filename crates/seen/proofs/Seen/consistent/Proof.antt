@@ -1,0 +1,24 @@
+-- `seen::Seen::consistent` meets its contract: its tests are the definition's, in its order.
+-- Assumes nothing.
+use Rattle.seen.specs.Received.{seenConsistent}
+use Rattle.seen.proofs.Tests.{failed, held}
+use borrow.Author.Needs.{needs}
+use Rattle.seen.proofs.Seen.consistent.Statement.{statement}
+use Rattle.seen.proofs.Seen.consistent.Tie as tie
+
+numbers-obey-requires : tie.Need-numbers-obey-requires
+numbers-obey-requires c κs = search needs
+
+returns : tie.Need-returns
+unfolding seenConsistent
+returns c = rw (failed (c .before .numbers-obey .ensures) (c .if1 .taken))
+
+marks-consistent-requires : tie.Need-marks-consistent-requires
+marks-consistent-requires c κs = search needs
+
+returns-2 : tie.Need-returns-2
+unfolding seenConsistent
+returns-2 c = rw (held (c .before .before .numbers-obey .ensures) (c .before .if1 .left)) (c .marks-consistent .ensures)
+
+pub consistent-spec : {M : Type 1} → statement M
+consistent-spec = tie.close (tie.spec numbers-obey-requires returns marks-consistent-requires returns-2)

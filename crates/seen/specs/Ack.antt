@@ -1,0 +1,89 @@
+-- The ACK frame of what was received: the ranges of the window, as many newest of them as fit, and refusals 1, 5, 8, 9.
+use Prim.Native.Nat.{ℕ, zero, suc, _+_, _-_, _*_, _/_}
+use mathlib.Core.Bool.{Bool, true, false}
+use mathlib.Core.List.{List, [], _∷_}
+use lib.Dec.{leb, eqb}
+use lib.ListN.{length, take}
+use Rattle.wire.specs.Bytes.{pick, splice}
+use Rattle.wire.specs.Numbers.{encodeAll}
+use Rattle.window.specs.Window.{valueOf, runBelow}
+use Rattle.frames.specs.Ack.{ackNumbers}
+use Rattle.seen.specs.declared.Micros.{Micros}
+use Rattle.seen.specs.declared.Seen.{Seen}
+use Rattle.seen.specs.declared.Acked.{Acked}
+use Rattle.seen.specs.Numbers.{small}
+use Rattle.seen.specs.Received.{seenConsistent}
+
+-- ---- the "ranges of the window": maximal runs of received numbers, smallest and largest of each, newest first
+
+-- the number that a place of the window stands for, where L's end is `end`
+abbrev pub numberAt : ℕ → ℕ → ℕ
+numberAt end place = place + end - 1024
+
+-- the first n ranges below a place: what is missing there is passed over, then comes the run of received numbers, then what is below it
+unfoldable pub rangesBelow : ℕ → Seen → ℕ → List ℕ
+rangesBelow zero s place = []
+rangesBelow (suc n) s place =
+    let top = place - runBelow false place (valueOf (s .window)) in
+    let low = top - runBelow true top (valueOf (s .window)) in
+    elim top [ zero ↦ [] | suc largest ↦ numberAt (s .end) low ∷ numberAt (s .end) largest ∷ rangesBelow n s low ]
+
+-- all of them: the window has 1,024 places, L's is the last
+abbrev pub ranges : Seen → List ℕ
+ranges s = rangesBelow 1024 s 1024
+
+abbrev pub numberOfRanges : Seen → ℕ
+numberOfRanges s = length (ranges s) / 2
+
+-- ---- the frame
+
+-- "delay one eighth (rounded down) of the microseconds since L arrived"; "A clock that went back counts as no time passed"
+abbrev pub ackDelay : Seen → Micros → ℕ
+ackDelay s time = (time .0 - s .arrived .0) / 8
+
+-- the bytes of the ACK frame with the k newest ranges
+unfoldable pub frame : Seen → ℕ → ℕ → List ℕ
+frame s delay k = encodeAll (ackNumbers delay (take (2 * k) (ranges s)))
+
+-- whether it fits the room
+abbrev pub fits : Seen → ℕ → ℕ → ℕ → Bool
+fits s delay room k = leb (length (frame s delay k)) room
+
+-- the largest of k, k - 1, .., 1 for which the test holds, 0 where it holds for none
+unfoldable pub largestWhere : (ℕ → Bool) → ℕ → ℕ
+largestWhere test zero = 0
+largestWhere test (suc k) = elim (test (suc k)) [ true ↦ suc k | false ↦ largestWhere test k ]
+
+-- "as many newest ranges of the window as fit"
+unfoldable pub rangesKept : Seen → ℕ → ℕ → ℕ
+rangesKept s delay room = largestWhere (fits s delay room) (numberOfRanges s)
+
+-- ---- the frame in a lent buffer xs, whose length is the room
+
+-- once what was received is consistent: 5, 8; then 9 where "the smallest permitted output", the frame with the first range only, does not fit
+abbrev pub refusalAfter1 : Seen → Micros → ℕ → ℕ
+refusalAfter1 s time room = pick (small (time .0)) (pick (eqb (s .end) 0) 8 (pick (fits s (ackDelay s time) room 1) 0 9)) 5
+
+unfoldable pub ackRefusal : Seen → Micros → ℕ → ℕ
+ackRefusal s time room = pick (seenConsistent s) (refusalAfter1 s time room) 1
+
+-- the frame that is written
+abbrev pub ackFrame : Seen → Micros → ℕ → List ℕ
+ackFrame s time room = frame s (ackDelay s time) (rangesKept s (ackDelay s time) room)
+
+abbrev pub acked : ℕ → List ℕ → Acked
+acked zero bytes = record { result = 0; length = length bytes }
+acked (suc refusal) bytes = record { result = suc refusal; length = 0 }
+
+-- "Bytes after the frame stay"; a refusal "writes no element of a lent buffer"
+abbrev pub laid : ℕ → List ℕ → List ℕ → List ℕ
+laid zero xs bytes = splice xs 0 bytes
+laid (suc refusal) xs bytes = xs
+
+-- the answer
+unfoldable pub ackAnswer : Seen → Micros → List ℕ → Acked
+ackAnswer s time xs = acked (ackRefusal s time (length xs)) (ackFrame s time (length xs))
+
+-- the lent buffer after it
+unfoldable pub ackBytes : Seen → Micros → List ℕ → List ℕ
+ackBytes s time xs = laid (ackRefusal s time (length xs)) xs (ackFrame s time (length xs))

@@ -1,0 +1,75 @@
+-- What was received: the window and its floor, what consistent means of it, refusals 6 and 7, what an accepted number marks, and the missing numbers.
+-- What may be absent is kept as an end, one past the number, and 0 for none.
+use Prim.Native.Nat.{ℕ, _+_, _-_, _/_, _^_, min, max}
+use mathlib.Core.Bool.{Bool, true, false, _&&_, _||_}
+use lib.Dec.{leb, ltb, eqb}
+use Rattle.wire.specs.Bytes.{pick}
+use Rattle.window.specs.Window.{valueOf, windowOf, isSet, withBit, noneBelow, firstClear}
+use Rattle.window.specs.declared.Window.{Window}
+use Rattle.window.specs.declared.Missing.{Missing}
+use Rattle.window.specs.declared.Missing.the-variants.{At, Nothing}
+use Rattle.seen.specs.declared.Micros.{Micros}
+use Rattle.seen.specs.declared.Seen.{Seen}
+use Rattle.seen.specs.Numbers.{small, smallEnd}
+
+-- ---- the window
+
+-- "the floor, the larger of 0 and L - 1,023", where L's end is `end`
+abbrev pub floorOf : ℕ → ℕ
+floorOf end = end - 1024
+
+abbrev pub floor : Seen → ℕ
+floor s = floorOf (s .end)
+
+-- the place of a number of the window, where L's end is `end`: L's own is 1023
+abbrev pub placeOf : ℕ → ℕ → ℕ
+placeOf end n = n + 1024 - end
+
+-- whether a number of the window was received
+abbrev pub received : Seen → ℕ → Bool
+received s n = isSet (valueOf (s .window)) (placeOf (s .end) n)
+
+-- ---- "Consistent means"
+
+-- "every number and time obeys 5", of L and of its arrival
+abbrev pub numbersObey : Seen → Bool
+numbersObey s = smallEnd (s .end) && small (s .arrived .0)
+
+-- "L's own place is marked and none below number 0"; "if nothing was received, no place is marked"
+abbrev pub marksConsistent : Seen → Bool
+marksConsistent s = noneBelow (1024 - s .end) (valueOf (s .window)) && (eqb (s .end) 0 || isSet (valueOf (s .window)) 1023)
+
+unfoldable pub seenConsistent : Seen → Bool
+seenConsistent s = numbersObey s && marksConsistent s
+
+-- ---- refusals
+
+-- "7: the packet number lies below the window; 6: [it] lies in the window and was received"
+unfoldable pub numberRefusal : Seen → ℕ → ℕ
+numberRefusal s n = pick (leb (s .end) n) 0 (pick (ltb n (floor s)) 7 (pick (received s n) 6 0))
+
+-- ---- "Accepted packets are marked and L moves if exceeded"
+
+abbrev pub markAt : Window → ℕ → Window
+markAt w place = windowOf (withBit (valueOf w) place)
+
+abbrev pub moveOn : Window → ℕ → Window
+moveOn w d = windowOf (valueOf w / 2 ^ d)
+
+unfoldable pub seenAfter : Seen → ℕ → Micros → Seen
+seenAfter s n time =
+    pick (ltb n (s .end))
+    (record { window = markAt (s .window) (placeOf (s .end) n); end = s .end; arrived = s .arrived })
+    (record { window = markAt (moveOn (s .window) (n + 1 - s .end)) 1023; end = n + 1; arrived = time })
+
+-- ---- "missing numbers are sought only in the window as it stands after this packet"
+
+-- the place of the first from `from` up to below `to`
+unfoldable pub firstMissing : Seen → ℕ → ℕ → Missing
+firstMissing s from to =
+    let low = placeOf (s .end) (max from (floor s)) in
+    firstClear (placeOf (s .end) (min to (s .end)) - low) low (valueOf (s .window))
+
+abbrev pub isAny : Missing → Bool
+isAny (At place) = true
+isAny Nothing = false

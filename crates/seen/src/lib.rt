@@ -1,0 +1,32 @@
+// What was received: the largest number L, when it arrived, which numbers of the window were received, and the ACK frame that says so.
+// Carries of "The receiver record" of document 01 the window, refusals 6 and 7, the missing numbers and the frame that write emits (RFC 9000 section 19.3).
+// Every public function takes any record, any number and any time.
+use window::Window;
+
+mod ack;
+mod consistent;
+mod marks;
+pub mod numbers;
+
+// Microseconds: every time, the own minimum delay and the delay in force (004).
+#[repr(C)]
+pub struct Micros(pub u64);
+
+// What was received. What may be absent is kept as an end: one past the number, and 0 for none.
+#[repr(C)]
+pub struct Seen {
+    // Which of the last 1,024 numbers were received: place 1023 is L, place 1023 - d is L - d.
+    pub window: Window,
+    // The end of the largest received number, L.
+    pub end: u64,
+    // When L arrived.
+    pub arrived: Micros,
+}
+
+// What writing an ACK frame answers.
+pub struct Acked {
+    // 0 for written, or the paper's refusal number.
+    pub result: u64,
+    // How many bytes the frame takes at the start of the lent buffer, 0 where it was refused.
+    pub length: u64,
+}

@@ -1,0 +1,87 @@
+// The numbers of the window: which are refused, what an accepted one marks, and the first that is missing.
+ghost use mathlib.Core.Path.{_≡_};
+ghost use Prim.Native.Nat.{_-_, _≤_};
+ghost use Rattle.wire.specs.Bytes.{pick};
+ghost use Rattle.seen.specs.Numbers.{small};
+ghost use Rattle.seen.specs.Received.{floor, placeOf, numberRefusal, seenAfter, firstMissing};
+use crate::Micros;
+use crate::Seen;
+use crate::numbers;
+use window::Missing;
+
+// The place in the window of a number up to the end of L.
+fn place_of(end: u64, number: u64) -> u64
+    requires { ⌜ number ≤ end ⌝ }
+    ensures { λ r. ⌜ r ≡ placeOf end number ⌝ }
+{
+    numbers::minus_or_zero(1024, end - number)
+}
+
+impl Seen {
+    // The smallest number of the window.
+    fn floor(self) -> u64
+        ensures { λ r. ⌜ r ≡ floor self ⌝ }
+    {
+        numbers::minus_or_zero(self.end, 1024)
+    }
+
+    // 7 below the window, 6 in it and received, 0 for a number that can be accepted.
+    pub fn refusal(self, number: u64) -> u64
+        ensures { λ r. ⌜ r ≡ numberRefusal self number ⌝ }
+    {
+        let end = self.end;
+        if end <= number {
+            return 0;
+        }
+        if number < self.floor() {
+            return 7;
+        }
+        let window = self.window;
+        if window.is_marked(place_of(end, number)) {
+            return 6;
+        }
+        0
+    }
+
+    // With the number marked; L moves if it is exceeded. A number that does not obey 5 changes nothing.
+    pub fn with(self, number: u64, time: Micros) -> Seen
+        ensures { λ r. ⌜ r ≡ pick (small number) (seenAfter self number time) self ⌝ }
+    {
+        if !numbers::is_small(number) {
+            return self;
+        }
+        let end = self.end;
+        let window = self.window;
+        if number < end {
+            let next = window.mark(place_of(end, number));
+            let arrived = self.arrived;
+            return Seen {
+                window: next,
+                end,
+                arrived,
+            };
+        }
+        let end_after = number + 1;
+        let moved = window.advanced(end_after - end);
+        let next = moved.mark(1023);
+        Seen {
+            window: next,
+            end: end_after,
+            arrived: time,
+        }
+    }
+
+    // The place of the first missing number of the window from `from` up to below `to`.
+    pub fn first_missing(self, from: u64, to: u64) -> Missing
+        ensures { λ r. ⌜ r ≡ firstMissing self from to ⌝ }
+    {
+        let end = self.end;
+        let low = numbers::larger_of(from, self.floor());
+        let high = numbers::smaller_of(to, end);
+        if high <= low {
+            return Missing::Nothing;
+        }
+        let window = self.window;
+        window.first_missing(place_of(end, low), place_of(end, high))
+    }
+}

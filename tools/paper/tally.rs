@@ -1,0 +1,104 @@
+//! What the comparisons with the archive share: one call, the count of the calls that agree, and memory to lend.
+
+use crate::archive::Answer;
+use crate::random::Random;
+use crate::refusals::ACCEPTED;
+use std::collections::BTreeMap;
+use std::fmt::Debug;
+
+/// Each call with every result that it can give.
+const CAN_GIVE: [(&str, &[u64]); 17] = [
+    ("open", &[0, 5, 4]),
+    ("packet", &[0, 1, 5, 6, 7]),
+    ("timer", &[0, 1, 5]),
+    ("threshold", &[0, 1, 5, 4, 255]),
+    ("immediate", &[0, 1, 8]),
+    ("write", &[0, 1, 5, 8, 9]),
+    ("read_number", &[0, 2]),
+    ("put_number", &[0, 5, 9]),
+    ("read_frequency", &[0, 2, 3]),
+    ("read_immediate", &[0, 2, 3]),
+    ("read_ack", &[0, 2, 3, 14, 9]),
+    ("put_frequency", &[0, 5, 9]),
+    ("put_immediate", &[0, 9]),
+    ("read_report", &[0, 2, 10, 11, 12, 13]),
+    ("find_entries", &[0]),
+    ("read_entry", &[0, 2, 12]),
+    ("write_report", &[0, 5, 11, 10, 12, 9]),
+];
+
+/// How often each call gave each result, and each receiver call left each cause.
+#[derive(Default)]
+pub struct Tally {
+    results: BTreeMap<(&'static str, u64), usize>,
+    causes: BTreeMap<u64, usize>,
+}
+
+/// One call: what it was given, what the papers answer and what the archive answered.
+pub struct Call<'a> {
+    pub name: &'static str,
+    pub result: u64,
+    pub given: &'a dyn Debug,
+}
+
+impl Tally {
+    /// Counts a call whose two answers agree.
+    pub fn compare<T: PartialEq + Debug>(&mut self, call: Call, papers: T, archive: T) -> Result<(), String> {
+        if papers != archive {
+            return Err(format!(
+                "{} differs\n  given {:?}\n  by the papers: {papers:?}\n  by the archive: {archive:?}",
+                call.name, call.given
+            ));
+        }
+        *self.results.entry((call.name, call.result)).or_default() += 1;
+        Ok(())
+    }
+
+    /// Counts the cause that an accepted call leaves.
+    pub fn note_cause(&mut self, answer: &Answer) {
+        if answer.result == ACCEPTED {
+            *self.causes.entry(answer.next.cause).or_default() += 1;
+        }
+    }
+
+    pub fn print(&self) {
+        println!("{} calls agree", self.results.values().sum::<usize>());
+        for (name, _) in CAN_GIVE {
+            let given = self.results.iter().filter(|((call, _), _)| *call == name);
+            let counts: Vec<String> = given.map(|((_, result), count)| format!("{result}: {count}")).collect();
+            println!("{name:>16}  {}", counts.join(", "));
+        }
+        let counts: Vec<String> = self.causes.iter().map(|(cause, count)| format!("{cause}: {count}")).collect();
+        println!("{:>16}  {}", "cause after", counts.join(", "));
+    }
+
+    /// A comparison that never saw a result says nothing about it.
+    pub fn judge(&self) -> Result<(), String> {
+        let expected = CAN_GIVE.iter().flat_map(|(name, results)| results.iter().map(move |result| (*name, *result)));
+        let mut missing: Vec<String> =
+            expected.filter(|key| !self.results.contains_key(key)).map(|(name, result)| format!("{name} {result}")).collect();
+        missing.extend((0..=5).filter(|cause| !self.causes.contains_key(cause)).map(|cause| format!("cause {cause}")));
+        if missing.is_empty() {
+            return Ok(());
+        }
+        Err(format!("never seen: {}", missing.join(", ")))
+    }
+}
+
+/// A lent buffer with other memory on both sides; all of it is compared.
+pub struct Lent {
+    pub memory: Vec<u8>,
+    pub length: usize,
+}
+
+const AROUND: usize = 24;
+
+impl Lent {
+    pub fn new(random: &mut Random, length: usize) -> Lent {
+        Lent { memory: random.bytes(length + 2 * AROUND), length }
+    }
+
+    pub fn buffer(&mut self) -> &mut [u8] {
+        &mut self.memory[AROUND..AROUND + self.length]
+    }
+}
