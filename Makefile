@@ -1,21 +1,32 @@
 # The two commands of README.md are `make test` and `make run`; the others show the library from outside.
-.PHONY: help test run picture host paper compare bench
+.PHONY: help test run picture archive program build host rust install uninstall paper compare bench
 
-CFLAGS = -std=c11 -Wall -Wextra -Werror -O2 -Iinclude
-ARCHIVE = target/staticlib/libhost.a
+CFLAGS = -std=c11 -Wall -Wextra -Wpedantic -Werror -O2 -Iinclude
+# The archive as hosts link it; the toolchain names it after its crate.
+ARCHIVE = target/lib/liblumbixet.a
+SOURCES = crates.txt $(shell find crates -name '*.rt' -o -name '*.antt')
 # The loop over packets, an archive of its own that `make bench` alone links.
 STREAM = target/staticlib/libstream.a
 PAPER = target/paper/paper
+RUSTC = rustc --edition 2021 -L target/lib
 
 # How many inputs `make compare` makes for the replay program, and how many rounds of calls for the archive.
 INPUTS = 3400
 ROUNDS = 20000
+
+# Where `make install` puts the library, and a folder to stage it under.
+PREFIX = /usr/local
+DESTDIR =
 
 help:
 	@echo 'make test     the gate: layout, documents, examples, comparisons, every proof, every must-fail edit, every program'
 	@echo 'make run      prove the replay program and replay the bundled hearing: index, result and cause of each record'
 	@echo 'make picture  draw the bundled hearing and its answers as examples/hearing.svg'
 	@echo 'make host     prove and build the archive for hosts in C, hold the header to it, and run the example room'
+	@echo 'make rust     build the crate for hosts in Rust (bindings/rust) and run its tests'
+	@echo 'make build    prove and build what is installed: the archive and the replay program'
+	@echo 'make install  put them in their places, with header, pkg-config file and manual page: PREFIX=/usr/local DESTDIR='
+	@echo 'make uninstall  take them out again'
 	@echo 'make compare  compare the program and the archive with a second implementation that was written from the papers'
 	@echo 'make bench    compare the archive with plain C and time both, and the replay program beside the second implementation; no time is judged'
 
@@ -37,13 +48,37 @@ picture:
 	@mv target/hearing.svg examples/hearing.svg
 	@echo 'picture: examples/hearing.svg'
 
-host:
+archive: $(ARCHIVE)
+
+# Building the archive proves crate host again, so it is built only where a source is newer.
+$(ARCHIVE): $(SOURCES)
 	@rt staticlib host
+	@mkdir -p target/lib
+	@cp target/staticlib/libhost.a $@
+
+program:
+	@rt check replay
+
+build: archive program
+
+# Neither proves nor builds: whoever may write to PREFIX need not have the toolchain.
+install:
+	@tools/install '$(PREFIX)' '$(DESTDIR)'
+
+uninstall:
+	@tools/install --remove '$(PREFIX)' '$(DESTDIR)'
+
+host: archive
 	@mkdir -p target/host
 	@echo
 	@$(CC) $(CFLAGS) tools/check-header.c $(ARCHIVE) -o target/host/check-header
 	@target/host/check-header
-	@if command -v $(CXX) >/dev/null; then $(CXX) -std=c++11 -Wall -Wextra -Werror -fsyntax-only -x c++ include/lumbixet.h; fi
+	@$(CC) $(CFLAGS) tools/check-room.c $(ARCHIVE) -o target/host/check-room
+	@target/host/check-room
+	@if command -v $(CXX) >/dev/null; then \
+	    echo '#include "lumbixet.h"' | $(CXX) -std=c++11 -Wall -Wextra -Wpedantic -Werror -Iinclude -fsyntax-only -x c++ -; fi
+	@sed -n '/^```c$$/,/^```$$/p' docs/DRIVING.md | sed '/^```/d' | \
+	    $(CC) $(CFLAGS) -Wno-unused-function -include tools/driving.h -fsyntax-only -x c -
 	@$(CC) $(CFLAGS) examples/room.c $(ARCHIVE) -o target/host/room
 	@target/host/room >target/host/room.out
 	@diff examples/room.expected target/host/room.out
@@ -51,12 +86,25 @@ host:
 	@echo
 	@cat target/host/room.out
 
+# The crate for hosts in Rust and its tests, by rustc alone, which needs no network and no registry.
+rust: archive
+	@mkdir -p target/rust
+	@$(RUSTC) -O --crate-type rlib --crate-name lumbixet -o target/rust/liblumbixet.rlib bindings/rust/src/lib.rs
+	@$(RUSTC) --crate-type rlib --crate-name lumbixet --cfg 'feature="std"' -o target/rust/with-std.rlib bindings/rust/src/lib.rs
+	@set -e; for test in room edges; do \
+	    $(RUSTC) --test --extern lumbixet=target/rust/liblumbixet.rlib -o target/rust/$$test bindings/rust/tests/$$test.rs; \
+	    target/rust/$$test -q; \
+	done
+	@if command -v rustdoc >/dev/null; then \
+	    rustdoc --edition 2021 -L target/lib --extern lumbixet=target/rust/liblumbixet.rlib --crate-name lumbixet --test bindings/rust/src/lib.rs; fi
+	@$(RUSTC) -o target/rust/build bindings/rust/build.rs
+	@CARGO_MANIFEST_DIR=bindings/rust target/rust/build | grep -q '^cargo:rustc-link-search=native=bindings/rust/../../target/lib$$'
+	@echo "rust: the crate told the room's story, and its build script finds the archive"
+
 # The second implementation, linked with the archive.
-paper:
-	@rt check replay
-	@rt staticlib host
+paper: build
 	@mkdir -p target/paper
-	@rustc -O --edition 2021 --cfg archive -L target/staticlib -o $(PAPER) tools/paper/main.rs
+	@rustc -O --edition 2021 --cfg archive -L target/lib -o $(PAPER) tools/paper/main.rs
 	@echo
 
 compare: paper

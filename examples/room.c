@@ -2,35 +2,11 @@
  * What it must print stands in room.expected, which was written by hand from document 01. */
 #include <inttypes.h>
 #include <stdio.h>
+#include <stdlib.h>
 
 #include "lumbixet.h"
 
 #define ROOM 64
-
-static const char *const refusals[] = {
-    [LUMBIXET_INCONSISTENT] = "the record is not consistent",
-    [LUMBIXET_ENDS] = "the bytes end inside a field",
-    [LUMBIXET_OTHER_TYPE] = "the frame type is another one",
-    [LUMBIXET_DELAY] = "a delay breaks the delay rule",
-    [LUMBIXET_TOO_LARGE] = "a number is too large",
-    [LUMBIXET_REPEATED] = "this packet was received before",
-    [LUMBIXET_BELOW_WINDOW] = "this packet lies below the window",
-    [LUMBIXET_NOTHING_YET] = "nothing has been received yet",
-    [LUMBIXET_NO_ROOM] = "the output does not fit the room",
-    [LUMBIXET_COUNT_OR_TYPE] = "a metric count, metric type or entry count breaks its rule",
-    [LUMBIXET_SUM] = "the total differs from its parts",
-    [LUMBIXET_ENTRY] = "an entry breaks its rule",
-    [LUMBIXET_BYTES_BEHIND] = "bytes remain after the report",
-    [LUMBIXET_BELOW_ZERO] = "a range goes below number 0",
-};
-
-static const char *const causes[] = {
-    [LUMBIXET_IMMEDIATE] = "the sender asked for it",
-    [LUMBIXET_COUNT] = "more packets came than the threshold",
-    [LUMBIXET_ORDER] = "packets are missing or came out of order",
-    [LUMBIXET_CONGESTION] = "a run of congestion marks began",
-    [LUMBIXET_TIMER] = "the delay in force has passed",
-};
 
 static void show(const uint8_t *bytes, uint64_t length)
 {
@@ -39,9 +15,18 @@ static void show(const uint8_t *bytes, uint64_t length)
     puts(".");
 }
 
+/* What this story relies on: a host logs the words and gives up what it was doing. */
+static void must(uint64_t result, const char *what)
+{
+    if (result == LUMBIXET_ACCEPTED)
+        return;
+    fprintf(stderr, "%s: refused with %" PRIu64 ": %s\n", what, result, lumbixet_refusal_text(result));
+    exit(1);
+}
+
 static void refused(uint64_t result)
 {
-    printf(" Refused with %" PRIu64 ": %s.\n", result, refusals[result]);
+    printf(" Refused with %" PRIu64 ": %s.\n", result, lumbixet_refusal_text(result));
 }
 
 /* Ends the sentence on a call with what came of it, and hands the next record on. */
@@ -54,7 +39,7 @@ static lumbixet_receiver told(lumbixet_answer answer)
     else if (answer.next.cause == LUMBIXET_NOT_DUE)
         puts(" Nothing is due.");
     else
-        printf(" An acknowledgment is due: %s.\n", causes[answer.next.cause]);
+        printf(" An acknowledgment is due: %s.\n", lumbixet_cause_text(answer.next.cause));
     return answer.next;
 }
 
@@ -84,7 +69,7 @@ static lumbixet_receiver timer(lumbixet_receiver receiver, uint64_t time)
 static lumbixet_receiver acknowledge(lumbixet_receiver receiver, uint64_t time, size_t room)
 {
     uint8_t buffer[ROOM];
-    uint64_t ranges[ROOM];
+    uint64_t ranges[LUMBIXET_RANGES_ROOM(ROOM)];
     lumbixet_wrote wrote = lumbixet_write(receiver, time, buffer, room);
     printf("At %" PRIu64 " an acknowledgment is written into %zu bytes", time, room);
     if (wrote.result != LUMBIXET_ACCEPTED) {
@@ -94,7 +79,8 @@ static lumbixet_receiver acknowledge(lumbixet_receiver receiver, uint64_t time, 
     }
     putchar(':');
     show(buffer, wrote.length);
-    lumbixet_ack ack = lumbixet_read_ack(buffer, wrote.length, ranges, ROOM);
+    lumbixet_ack ack = lumbixet_read_ack(buffer, wrote.length, ranges, LUMBIXET_RANGES_ROOM(ROOM));
+    must(ack.result, "reading the ACK back");
     printf("  Read back, it says %" PRIu64 " microseconds after packet %" PRIu64 ":", 8 * ack.delay, ack.largest);
     for (uint64_t i = 0; i < ack.ranges; i++)
         printf(" %" PRIu64 " to %" PRIu64 " arrived%c", ranges[2 * i], ranges[2 * i + 1], i + 1 < ack.ranges ? ',' : '.');
@@ -105,11 +91,13 @@ static lumbixet_receiver acknowledge(lumbixet_receiver receiver, uint64_t time, 
 /* An ACK_FREQUENCY frame: written by the sender, read here, heard, and heard once more. */
 static lumbixet_receiver other_rules(lumbixet_receiver receiver)
 {
-    uint8_t buffer[ROOM];
-    lumbixet_put put = lumbixet_put_frequency(buffer, ROOM, 5, 2, 5000, 0);
+    uint8_t buffer[LUMBIXET_FREQUENCY_ROOM];
+    lumbixet_put put = lumbixet_put_frequency(buffer, sizeof buffer, 5, 2, 5000, 0);
+    must(put.result, "writing ACK_FREQUENCY");
     printf("The sender's frame is");
     show(buffer, put.next);
     lumbixet_frequency f = lumbixet_read_frequency(buffer, put.next);
+    must(f.result, "reading ACK_FREQUENCY");
     printf("  Read, it has sequence %" PRIu64 ", threshold %" PRIu64 ", delay %" PRIu64 " and reordering threshold %" PRIu64 ".\n",
            f.sequence, f.threshold, f.delay, f.reordering);
     printf("The frame is heard.");
@@ -124,8 +112,10 @@ static lumbixet_receiver other_rules(lumbixet_receiver receiver)
 static lumbixet_receiver asked(lumbixet_receiver receiver)
 {
     uint8_t buffer[ROOM];
-    lumbixet_put put = lumbixet_put_immediate(buffer, ROOM);
+    lumbixet_put put = lumbixet_put_immediate(buffer, sizeof buffer);
+    must(put.result, "writing IMMEDIATE_ACK");
     lumbixet_immediate_frame frame = lumbixet_read_immediate(buffer, put.next);
+    must(frame.result, "reading IMMEDIATE_ACK");
     printf("The sender's frame is");
     for (uint64_t i = 0; i < frame.used; i++)
         printf(" %02x.", buffer[i]);
@@ -146,6 +136,7 @@ static void read_report(const uint8_t *bytes, size_t length)
     lumbixet_entries part = lumbixet_find_entries(bytes, length);
     for (uint64_t i = 0; i < h.entries; i++) {
         lumbixet_entry entry = lumbixet_read_entry(bytes + part.start, part.length, i);
+        must(entry.result, "reading an entry");
         printf("  Object %" PRIu64 " ", entry.object);
         if (entry.status == LUMBIXET_NOT_RECEIVED)
             puts("did not come.");
@@ -166,6 +157,7 @@ static void report(void)
     lumbixet_header header = {.timestamp = 1000000, .interval = 100000, .total = 3, .received = 1, .late = 1, .lost = 1, .average = -2};
     uint8_t buffer[47];
     lumbixet_written written = lumbixet_write_report(buffer, sizeof buffer, header, records, sizeof records);
+    must(written.result, "writing the report");
     printf("A report of %" PRIu64 " objects is written into %zu bytes. It takes %" PRIu64 ", and keeps the last %" PRIu64 " of 3 records.\n",
            header.total, sizeof buffer, written.next, written.kept);
     printf("  Its numbers are");
@@ -178,7 +170,9 @@ static void report(void)
 int main(void)
 {
     puts("A packet is lost");
-    lumbixet_receiver receiver = lumbixet_open(1000, 3, 25, 1000).next;
+    lumbixet_answer opened = lumbixet_open(1000, 3, 25, 1000);
+    must(opened.result, "opening");
+    lumbixet_receiver receiver = opened.next;
     rules(receiver);
     receiver = packet(receiver, 0, 1000, false);
     receiver = packet(receiver, 1, 2000, false);

@@ -1,13 +1,24 @@
-/* Lumbixet: the receiver of a live hearing, for hosts in C and C++.
+/* Lumbixet: the receiver of a live hearing, for hosts in C and C++. docs/DRIVING.md shows a host's day.
  *
  * Every call takes any bytes and any numbers, ends, and keeps nothing between calls. `result` is 0 for
  * accepted, or the refusal number of document 01 (LUMBIXET_..., below). A refused call hands the record
- * back as it came and writes no element of a lent buffer; what else it answers is then 0.
+ * back as it came and writes no element of a lent buffer. What else it answers is then 0; the one call
+ * without a result, lumbixet_find_entries, says itself what it answers of a refused report.
  *
  * A pointer with its length names that many elements, all readable, and writable where the pointer is not
  * const; with length 0 the pointer must still not be NULL. Two lent parts of one call must not overlap.
+ * A uint64_t * is aligned as C aligns a uint64_t, to 8 bytes; bytes need no alignment.
  * A bool holds 0 or 1: C gives any other byte no meaning, and neither does Lumbixet. Every other byte of
  * a record may hold anything: a record that is not consistent is refused with 1.
+ *
+ * Records and answers hold numbers and no pointers: they may be copied, kept, and compared by their bytes.
+ * Threads: no state is shared between calls. Any number of them may run at once; where two lend the same
+ * memory or go on from the same record, the host orders them.
+ * Machine: x86-64 with the System V calling convention (Linux). The archive asks for memcpy and memset alone;
+ * of the compiler C11 or C++11 is assumed.
+ * Versions: patch numbers change no declaration. While MAJOR is 0, a new MINOR may add calls, constants
+ * and fields, and so change the size of a struct: compile header and archive of one version. Announced are
+ * ECN totals and a floor in lumbixet_receiver, and more metrics in lumbixet_header. Numbers keep their meaning.
  */
 #ifndef LUMBIXET_H
 #define LUMBIXET_H
@@ -20,12 +31,25 @@
 extern "C" {
 #endif
 
+/* The version of this header and of the archive that goes with it: its parts, one number to compare, and its name. */
+#define LUMBIXET_VERSION_MAJOR 0
+#define LUMBIXET_VERSION_MINOR 1
+#define LUMBIXET_VERSION_PATCH 0
+#define LUMBIXET_VERSION (10000 * LUMBIXET_VERSION_MAJOR + 100 * LUMBIXET_VERSION_MINOR + LUMBIXET_VERSION_PATCH)
+#define LUMBIXET_VERSION_TEXT "0.1.0"
+
 /* The largest number, threshold and time: 2^62 - 1. */
 #define LUMBIXET_LARGEST UINT64_C(4611686018427387903)
 
+/* Room that always suffices; tools/check-header.c computes each again. */
+#define LUMBIXET_ACK_ROOM 1042     /* bytes of an ACK frame with every range that the window can have */
+#define LUMBIXET_FREQUENCY_ROOM 34 /* bytes of an ACK_FREQUENCY frame */
+#define LUMBIXET_REPORT_ROOM 894   /* bytes of a report with 4 metrics and 50 entries */
+#define LUMBIXET_RANGES_ROOM(bytes) ((bytes) > 5 ? (bytes) - 3 : 2) /* numbers for the ranges of an ACK of so many bytes */
+
 /* What `result` says. */
 enum {
-    LUMBIXET_ACCEPTED = 0,
+    LUMBIXET_ACCEPTED = 0,      /* done */
     LUMBIXET_INCONSISTENT = 1,  /* the record handed in is not consistent */
     LUMBIXET_ENDS = 2,          /* the bytes end inside a field */
     LUMBIXET_OTHER_TYPE = 3,    /* the frame type is another one, or not in shortest form */
@@ -34,7 +58,7 @@ enum {
     LUMBIXET_REPEATED = 6,      /* the packet number lies in the window and was received */
     LUMBIXET_BELOW_WINDOW = 7,  /* the packet number lies below the window */
     LUMBIXET_NOTHING_YET = 8,   /* a write or IMMEDIATE_ACK before anything was received */
-    LUMBIXET_NO_ROOM = 9,       /* the smallest permitted output does not fit the lent buffer */
+    LUMBIXET_NO_ROOM = 9,       /* the smallest permitted output does not fit the lent buffer; for the ACK reader, all ranges */
     LUMBIXET_COUNT_OR_TYPE = 10,/* a report's metric count, metric types or entry count break their rule */
     LUMBIXET_SUM = 11,          /* total differs from received + late + lost */
     LUMBIXET_ENTRY = 12,        /* an entry record breaks its rule */
@@ -45,7 +69,7 @@ enum {
 
 /* Why an acknowledgment is due: the record's `cause`. */
 enum {
-    LUMBIXET_NOT_DUE = 0,
+    LUMBIXET_NOT_DUE = 0,    /* none is due */
     LUMBIXET_IMMEDIATE = 1,  /* the sender asked by IMMEDIATE_ACK */
     LUMBIXET_COUNT = 2,      /* more ack-eliciting packets than the threshold */
     LUMBIXET_ORDER = 3,      /* packets are missing or came out of order */
@@ -55,68 +79,83 @@ enum {
 
 /* What became of a media object: an entry's `status`. */
 enum {
-    LUMBIXET_RECEIVED = 0,
-    LUMBIXET_LATE = 1,
-    LUMBIXET_NOT_RECEIVED = 2,
-    LUMBIXET_PARTIAL = 3
+    LUMBIXET_RECEIVED = 0,     /* it came whole and in time */
+    LUMBIXET_LATE = 1,         /* it came whole and late */
+    LUMBIXET_NOT_RECEIVED = 2, /* nothing of it came */
+    LUMBIXET_PARTIAL = 3       /* a part of it came */
+};
+
+/* What a metric of a report says: its number in `kinds`, and the unit of its number in `values`. */
+enum {
+    LUMBIXET_PLAYOUT_AHEAD_MS = 0x02,         /* milliseconds until playback stalls at the receiver */
+    LUMBIXET_ESTIMATED_BANDWIDTH_KBPS = 0x04, /* kilobits per second, as the receiver estimates them */
+    LUMBIXET_PEER_RTT_US = 0x10,              /* microseconds: the receiver's smoothed round-trip time */
+    LUMBIXET_PEER_LOSS_RATE = 0x12            /* per mille of packets lost in the interval: 50 is 5.0 % */
 };
 
 /* ---- numbers on the wire */
 
-/* A number that was read, and the place after it. */
+/* A number that was read. */
 typedef struct {
     uint64_t result; /* 0 or 2 */
-    uint64_t value;
-    uint64_t next;
+    uint64_t value;  /* the number */
+    uint64_t next;   /* the place after it */
 } lumbixet_number;
 
-/* What a writer of numbers and frames answers: the place after what was written. */
+/* What a writer of numbers and frames answers. */
 typedef struct {
     uint64_t result; /* 0, 5 or 9 */
-    uint64_t next;
+    uint64_t next;   /* the place after what was written; of a frame, its length */
 } lumbixet_put;
 
 /* Reads the number that starts at place `at`; longer forms than needed are accepted. */
 lumbixet_number lumbixet_read_number(const uint8_t *bytes, size_t length, size_t at);
 
-/* Writes a number at place `at` in its shortest form. */
+/* Writes a number at place `at` in its shortest form: 8 bytes always suffice. 5, then 9. */
 lumbixet_put lumbixet_put_number(uint8_t *buffer, size_t length, size_t at, uint64_t value);
 
 /* ---- frames; a reader starts at the first byte, ignores what follows the frame, and `used` is the frame's length */
 
 /* The four values of an ACK_FREQUENCY frame. */
 typedef struct {
-    uint64_t result; /* 0, 2 or 3 */
-    uint64_t sequence;
-    uint64_t threshold;
-    uint64_t delay; /* microseconds; the codec does not judge it */
-    uint64_t reordering;
-    uint64_t used;
+    uint64_t result;     /* 0, 2 or 3 */
+    uint64_t sequence;   /* which frame this is: the sender counts them up */
+    uint64_t threshold;  /* the ack-eliciting threshold */
+    uint64_t delay;      /* the requested maximum delay in microseconds; lumbixet_threshold judges it */
+    uint64_t reordering; /* the reordering threshold: 0 never, 1 RFC 9000's rule, from 2 up the distance of a gap */
+    uint64_t used;       /* the frame's length */
 } lumbixet_frequency;
 
 /* What reading an IMMEDIATE_ACK frame finds. */
 typedef struct {
     uint64_t result; /* 0, 2 or 3 */
-    uint64_t used;
+    uint64_t used;   /* the frame's length */
 } lumbixet_immediate_frame;
 
 /* An ACK frame's numbers; its ranges stand in the lent slice. */
 typedef struct {
-    uint64_t result; /* 0, 2, 3, 14 or 9 */
-    uint64_t largest;
-    uint64_t delay;  /* as on the wire: each stands for 8 microseconds */
-    uint64_t ranges; /* how many ranges were written to the lent slice */
-    uint64_t used;
+    uint64_t result;  /* 0, 2, 3, 14 or 9 */
+    uint64_t largest; /* the largest acknowledged number */
+    uint64_t delay;   /* as on the wire: times 2 to the power of the exponent that its writer announced, microseconds */
+    uint64_t ranges;  /* how many ranges were written to the lent slice */
+    uint64_t used;    /* the frame's length */
 } lumbixet_ack;
 
+/* Reads an ACK_FREQUENCY frame (type 40 af). */
 lumbixet_frequency lumbixet_read_frequency(const uint8_t *bytes, size_t length);
+
+/* Reads an IMMEDIATE_ACK frame (type 1f, and nothing else). */
 lumbixet_immediate_frame lumbixet_read_immediate(const uint8_t *bytes, size_t length);
 
-/* Reads an ACK frame of type 02. `ranges` gets smallest and largest of each range, newest first; `room` counts numbers. */
+/* Reads an ACK frame of type 02. `ranges` gets smallest and largest of each range, newest first; `room` counts numbers,
+ * and LUMBIXET_RANGES_ROOM(length) of them always suffice. */
 lumbixet_ack lumbixet_read_ack(const uint8_t *bytes, size_t length, uint64_t *ranges, size_t room);
 
+/* Writes an ACK_FREQUENCY frame at the start of the buffer. 5, then 9. */
 lumbixet_put lumbixet_put_frequency(uint8_t *buffer, size_t length, uint64_t sequence, uint64_t threshold,
                                     uint64_t delay, uint64_t reordering);
+
+/* Writes an IMMEDIATE_ACK frame, one byte, at the start of the buffer. 9. */
 lumbixet_put lumbixet_put_immediate(uint8_t *buffer, size_t length);
 
 /* ---- the receiver */
@@ -143,22 +182,22 @@ typedef struct {
 
 /* A call's result and the next record. */
 typedef struct {
-    uint64_t result;
-    lumbixet_receiver next;
+    uint64_t result;        /* 0, or why the call was refused; LUMBIXET_STALE of lumbixet_threshold alone */
+    lumbixet_receiver next; /* the record to go on with; of a refused call the one that was handed in */
 } lumbixet_answer;
 
 /* What the write call answers. */
 typedef struct {
-    uint64_t result; /* 0, 1, 5, 8 or 9 */
-    uint64_t length; /* how many bytes the ACK frame takes at the start of the buffer */
-    lumbixet_receiver next;
+    uint64_t result;        /* 0, 1, 5, 8 or 9 */
+    uint64_t length;        /* how many bytes the ACK frame takes at the start of the buffer */
+    lumbixet_receiver next; /* the record to go on with */
 } lumbixet_wrote;
 
 /* Opens a receiver: T, R, the own maximum delay in milliseconds, the own minimum in microseconds. 5, then 4; a refused
  * opening hands back the usual record (1, 1, 25 ms, 1,000 us). */
 lumbixet_answer lumbixet_open(uint64_t threshold, uint64_t reordering, uint64_t maximum_ms, uint64_t minimum_us);
 
-/* A packet arrives. 1, 5, then 6 or 7. */
+/* A packet arrives, ack-eliciting or not, with the CE mark or not. 1, 5, then 6 or 7. */
 lumbixet_answer lumbixet_packet(lumbixet_receiver receiver, uint64_t number, uint64_t time_us, bool eliciting, bool marked);
 
 /* The timer is looked at. 1, 5. */
@@ -171,44 +210,53 @@ lumbixet_answer lumbixet_threshold(lumbixet_receiver receiver, uint64_t sequence
 /* An IMMEDIATE_ACK frame arrives. 1, 8. */
 lumbixet_answer lumbixet_immediate(lumbixet_receiver receiver);
 
-/* Writes an ACK frame at the start of the buffer, with as many newest ranges as fit. 1, 5, 8, 9. */
+/* Writes an ACK frame at the start of the buffer, with as many newest ranges as fit, and its delay in units of 8
+ * microseconds (exponent 3). 1, 5, 8, 9. */
 lumbixet_wrote lumbixet_write(lumbixet_receiver receiver, uint64_t time_us, uint8_t *buffer, size_t length);
+
+/* When to look at the timer: the first unacknowledged arrival plus the delay in force, in microseconds; UINT64_MAX while
+ * nothing is pending or an acknowledgment is due already. */
+static inline uint64_t lumbixet_wake(const lumbixet_receiver *receiver)
+{
+    bool waiting = receiver->pending_count != 0 && receiver->cause == LUMBIXET_NOT_DUE;
+    return waiting ? receiver->pending_first + receiver->delay : UINT64_MAX;
+}
 
 /* ---- the feedback report */
 
 /* The summary of a report, and its metrics. */
 typedef struct {
-    uint64_t timestamp;  /* microseconds */
-    uint64_t interval;   /* microseconds */
-    uint64_t total;      /* received + late + lost */
-    uint64_t received;
-    uint64_t late;
-    uint64_t lost;
-    int64_t average;     /* from -2^61 to 2^61 - 1 */
+    uint64_t timestamp;  /* when the report was made, in microseconds */
+    uint64_t interval;   /* how long the reported time is, in microseconds */
+    uint64_t total;      /* objects reported on: received + late + lost */
+    uint64_t received;   /* of them, received in time */
+    uint64_t late;       /* of them, received late */
+    uint64_t lost;       /* of them, lost */
+    int64_t average;     /* by how much arrivals lay further apart than expected, in microseconds, -2^61 to 2^61 - 1 */
     uint64_t metrics;    /* how many metrics there are, at most 4 */
-    uint64_t kinds[4];   /* strictly rising, from 0x02, 0x04, 0x10, 0x12 */
-    uint64_t values[4];
+    uint64_t kinds[4];   /* strictly rising, from 0x02, 0x04, 0x10, 0x12 (LUMBIXET_PLAYOUT_AHEAD_MS and so on) */
+    uint64_t values[4];  /* the number of each, in the unit that its kind names */
     uint64_t entries;    /* how many entries follow; the writer takes no heed of it */
 } lumbixet_header;
 
-/* What reading a report finds; the header is all 0 where it is refused. */
+/* What reading a report finds. */
 typedef struct {
-    uint64_t result; /* 0, 2, 10, 11, 12 or 13 */
-    lumbixet_header header;
+    uint64_t result;        /* 0, 2, 10, 11, 12 or 13 */
+    lumbixet_header header; /* all 0 where the report is refused */
 } lumbixet_report;
 
-/* Where the entries of a report stand in the caller's own bytes; a refused report has none: start is then its length. */
+/* Where the entries of a report stand in the caller's own bytes. */
 typedef struct {
-    uint64_t start;
+    uint64_t start;  /* the place of the first; of a report without entries, and of a refused one, the bytes' length */
     uint64_t length; /* in bytes: 16 for each entry */
 } lumbixet_entries;
 
 /* One entry. */
 typedef struct {
     uint64_t result; /* 0, 2 or 12 */
-    uint64_t object;
-    uint64_t status;
-    uint64_t age; /* microseconds at the timestamp */
+    uint64_t object; /* the object's number */
+    uint64_t status; /* what became of it: LUMBIXET_RECEIVED and so on */
+    uint64_t age;    /* microseconds at the timestamp; 0 where it was not received */
 } lumbixet_entry;
 
 /* What the writer of reports answers. */
@@ -218,7 +266,10 @@ typedef struct {
     uint64_t kept;   /* how many of the last records were written, at most 50 */
 } lumbixet_written;
 
+/* Reads a whole report: no byte may follow it. */
 lumbixet_report lumbixet_read_report(const uint8_t *bytes, size_t length);
+
+/* Finds the entries of a report; a refused report has none. */
 lumbixet_entries lumbixet_find_entries(const uint8_t *bytes, size_t length);
 
 /* Reads entry `index` of the part that lumbixet_find_entries named: pass bytes + start and length. */
@@ -232,5 +283,8 @@ lumbixet_written lumbixet_write_report(uint8_t *buffer, size_t length, lumbixet_
 #ifdef __cplusplus
 }
 #endif
+
+/* The numbers in words: lumbixet_refusal_text and lumbixet_cause_text. */
+#include "lumbixet_text.h"
 
 #endif

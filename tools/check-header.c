@@ -26,6 +26,12 @@ SIZE(lumbixet_entries, 16);
 SIZE(lumbixet_entry, 32);
 SIZE(lumbixet_written, 24);
 
+/* No byte between two fields: answers can be compared by their bytes. */
+SIZE(lumbixet_answer, 8 + sizeof(lumbixet_receiver));
+SIZE(lumbixet_wrote, 16 + sizeof(lumbixet_receiver));
+SIZE(lumbixet_header, (9 + 4 + 4) * 8);
+SIZE(lumbixet_report, 8 + sizeof(lumbixet_header));
+
 AT(lumbixet_receiver, window, 0);
 AT(lumbixet_receiver, end, 128);
 AT(lumbixet_receiver, arrived, 136);

@@ -127,8 +127,8 @@ fn compare_write_report(random: &mut Random, tally: &mut Tally) -> Result<Vec<u8
         Ok((next, kept)) => Written { result: 0, next: next as u64, kept: kept as u64 },
         Err(result) => Written { result, ..Written::default() },
     };
-    let archive =
-        unsafe { lumbixet_write_report(archive_lent.buffer().as_mut_ptr(), length, header, records.as_ptr(), records.len()) };
+    let (start, raw) = (archive_lent.buffer().as_mut_ptr(), raw_header(&header));
+    let archive = unsafe { lumbixet_write_report(start, length, raw, records.as_ptr(), records.len()) };
     let written = papers_lent.buffer()[..papers.next as usize].to_vec();
     let call = Call { name: "write_report", result: papers.result, given: &(length, header, records) };
     tally.compare(call, (papers, papers_lent.memory), (archive, archive_lent.memory))?;
@@ -166,7 +166,7 @@ fn report(random: &mut Random) -> Vec<u8> {
 
 fn compare_readers(random: &mut Random, tally: &mut Tally, bytes: &[u8]) -> Result<(), String> {
     let papers = match read_report(bytes) {
-        Ok((header, _)) => Report { result: 0, header },
+        Ok((header, _)) => Report { result: 0, header: raw_header(&header) },
         Err(result) => Report { result, ..Report::default() },
     };
     let archive = unsafe { lumbixet_read_report(bytes.as_ptr(), bytes.len()) };

@@ -2,7 +2,7 @@
 //! the proved one.
 //!
 //!     rustc -O --edition 2021 -o paper tools/paper/main.rs
-//!     rustc -O --edition 2021 --cfg archive -L target/staticlib -o paper tools/paper/main.rs
+//!     rustc -O --edition 2021 --cfg archive -L target/lib -o paper tools/paper/main.rs
 //!
 //! The second links the archive for hosts in C, and has `compare-archive` too.
 

@@ -18,8 +18,7 @@ pub const SMALLEST_AVERAGE: i64 = -(1 << 61);
 pub const LARGEST_AVERAGE: i64 = (1 << 61) - 1;
 
 /// "Timestamp; then the summary of 003: interval, total, received, late, lost, average; then metric count and type-value
-/// pairs; then entry count". The default is the empty header of a refused read. The fields lie as in the C header's.
-#[repr(C)]
+/// pairs; then entry count". The default is the empty header of a refused read.
 #[derive(Clone, Copy, Debug, Default, PartialEq, Eq)]
 pub struct Header {
     pub timestamp: u64,

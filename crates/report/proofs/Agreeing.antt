@@ -7,6 +7,7 @@ use native.Mathlib.Omega.{arith}
 use lib.ListN.{length, drop, length-take, length-drop}
 use lib.Seq.{take-all}
 use Rattle.entries.specs.Limits.{recordSize}
+use Rattle.entries.specs.Fitting.{lastOf}
 use Rattle.entries.specs.Exactly.{Obeys}
 use Rattle.entries.proofs.Exactly.{entries-judged}
 use Rattle.report.specs.Header.{countOf, headerOf}
@@ -38,7 +39,7 @@ module _ (s : List ℕ) (e : readReport s .refusal ≡ 0) where
   good : (i : ℕ) → i < readReport s .header .entries → Obeys (entriesOf s) i
   good i l = entries-judged (entriesOf s) .0 (rw entries (x .good)) i (omega (arith, many))
 
-  part : entriesOf s ≡ drop (length s - recordSize * readReport s .header .entries) s
+  part : entriesOf s ≡ lastOf s (readReport s .header .entries)
   part =
       let n : length s - recordSize * countOf (x .ns) ≡ x .at = omega (arith, x .end) in
       rw (count, n, entries) (take-all (recordSize * countOf (x .ns)) (drop (x .at) s) (rw length-drop (omega (arith, x .end))))

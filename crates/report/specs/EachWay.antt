@@ -1,5 +1,5 @@
 -- Each way: what the writer wrote the reader reads back, and what the reader accepts in shortest form the writer writes.
-use Prim.Native.Nat.{ℕ, _-_, _*_, _≤_, _<_}
+use Prim.Native.Nat.{ℕ, _*_, _≤_, _<_}
 use mathlib.Core.Path.{_≡_}
 use mathlib.Core.List.{List, []}
 use lib.Dec.{ltb}
@@ -66,7 +66,7 @@ pub record Agree (s : List ℕ) : Type 0 where
   pub refused : (readReport s .refusal ≡ 0 → ⊥) → entriesOf s ≡ []
   pub many : readReport s .refusal ≡ 0 → length (entriesOf s) ≡ recordSize * readReport s .header .entries
   pub each : readReport s .refusal ≡ 0 → (i : ℕ) → i < readReport s .header .entries → Obeys (entriesOf s) i
-  pub part : readReport s .refusal ≡ 0 → entriesOf s ≡ drop (length s - recordSize * readReport s .header .entries) s
+  pub part : readReport s .refusal ≡ 0 → entriesOf s ≡ lastOf s (readReport s .header .entries)
 
 abbrev pub BothAgree : Type 0
 BothAgree = (s : List ℕ) → Agree s

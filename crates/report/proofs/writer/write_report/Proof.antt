@@ -12,7 +12,8 @@ use Rattle.report.specs.Header.{numbersOf}
 use Rattle.report.specs.Writer.{planned, writeAnswer}
 use Rattle.report.specs.declared.Header.{Header}
 use Rattle.report.specs.declared.Written.{Written}
-use Rattle.report.proofs.Planning.{plan-accepted, kept-limit, kept-given, ready, stored-report, write-refused, write-done}
+use Rattle.report.specs.declared.Written.the-variants.{Done}
+use Rattle.report.proofs.Planning.{Accepted, plan-accepted, kept-limit, kept-given, ready, stored-report, write-refused, write-done}
 use borrow.Author.Needs.{needs}
 use Rattle.report.proofs.writer.write_report.Statement.{statement}
 use Rattle.report.proofs.writer.write_report.Tie as tie
@@ -26,6 +27,13 @@ small h m e = rw e (min-le-right (h .metrics) 4)
 
 answered : (h : Header) (entries : List ℕ) (room : ℕ) (w : Written) (numbers : List ℕ) (n : ℕ) → take n numbers ≡ numbersOf h → w ≡ planned (take n numbers) entries room → w ≡ writeAnswer h entries room
 answered h entries room w numbers n t e = rw t at e
+
+-- what the code knows once the plan is accepted
+accepted : (h : Header) (entries : List ℕ) (room : ℕ) (numbers : List ℕ) (m : ℕ) (w : Written) (next kept : ℕ)
+    → m ≡ min (h .metrics) 4 → take (8 + 2 * min (h .metrics) 4) numbers ≡ numbersOf h → w ≡ planned (take (8 + 2 * m) numbers) entries room → w ≡ Done next kept
+    → Accepted (numbersOf h) entries room next kept
+accepted h entries room numbers m w next kept e t f d =
+    plan-accepted (numbersOf h) entries room next kept (sym d ∙ answered h entries room w numbers (8 + 2 * m) (first h numbers m e t) f)
 
 looked-at-requires : tie.Need-looked-at-requires
 looked-at-requires c κs = search needs
@@ -77,36 +85,28 @@ mul-bytes : tie.Need-mul-bytes
 mul-bytes c =
     let a = c .before .before .before .before .before .before .before .before .before .args in
     let h = a .header in
-    let t = first h (c .before .before .before .before .before .numbers-of .result) (c .before .before .before .before .before .before .looked-at .result) (c .before .before .before .before .before .before .looked-at .ensures) (c .before .before .before .before .before .numbers-of .ensures) in
-    let w = answered h (now (a .entries)) (length (now (a .buf))) (c .before .before .before .plan .result) (c .before .before .before .before .before .numbers-of .result) (8 + 2 * c .before .before .before .before .before .before .looked-at .result) t (c .before .before .before .plan .ensures) in
-    let p = plan-accepted (numbersOf h) (now (a .entries)) (length (now (a .buf))) _ _ (sym (c .before .answer .given .1) ∙ w) in
+    let p = accepted h (now (a .entries)) (length (now (a .buf))) _ _ _ _ _ (c .before .before .before .before .before .before .looked-at .ensures) (c .before .before .before .before .before .numbers-of .ensures) (c .before .before .before .plan .ensures) (c .before .answer .given .1) in
     omega (arith, kept-limit p)
 
 sub-at : tie.Need-sub-at
 sub-at c =
     let a = c .before .before .before .before .before .before .before .before .before .args in
     let h = a .header in
-    let t = first h (c .before .before .before .before .before .numbers-of .result) (c .before .before .before .before .before .before .looked-at .result) (c .before .before .before .before .before .before .looked-at .ensures) (c .before .before .before .before .before .numbers-of .ensures) in
-    let w = answered h (now (a .entries)) (length (now (a .buf))) (c .before .before .before .plan .result) (c .before .before .before .before .before .numbers-of .result) (8 + 2 * c .before .before .before .before .before .before .looked-at .result) t (c .before .before .before .plan .ensures) in
-    let p = plan-accepted (numbersOf h) (now (a .entries)) (length (now (a .buf))) _ _ (sym (c .before .answer .given .1) ∙ w) in
+    let p = accepted h (now (a .entries)) (length (now (a .buf))) _ _ _ _ _ (c .before .before .before .before .before .before .looked-at .ensures) (c .before .before .before .before .before .numbers-of .ensures) (c .before .before .before .plan .ensures) (c .before .answer .given .1) in
     omega (arith, p .size)
 
 sub-start : tie.Need-sub-start
 sub-start c =
     let a = c .before .before .before .before .before .before .before .before .before .args in
     let h = a .header in
-    let t = first h (c .before .before .before .before .before .numbers-of .result) (c .before .before .before .before .before .before .looked-at .result) (c .before .before .before .before .before .before .looked-at .ensures) (c .before .before .before .before .before .numbers-of .ensures) in
-    let w = answered h (now (a .entries)) (length (now (a .buf))) (c .before .before .before .plan .result) (c .before .before .before .before .before .numbers-of .result) (8 + 2 * c .before .before .before .before .before .before .looked-at .result) t (c .before .before .before .plan .ensures) in
-    let p = plan-accepted (numbersOf h) (now (a .entries)) (length (now (a .buf))) _ _ (sym (c .before .answer .given .1) ∙ w) in
+    let p = accepted h (now (a .entries)) (length (now (a .buf))) _ _ _ _ _ (c .before .before .before .before .before .before .looked-at .ensures) (c .before .before .before .before .before .numbers-of .ensures) (c .before .before .before .plan .ensures) (c .before .answer .given .1) in
     omega (arith, kept-given p)
 
 add-end : tie.Need-add-end
 add-end c =
     let a = c .before .before .before .before .before .before .before .before .before .args in
     let h = a .header in
-    let t = first h (c .before .before .before .before .before .numbers-of .result) (c .before .before .before .before .before .before .looked-at .result) (c .before .before .before .before .before .before .looked-at .ensures) (c .before .before .before .before .before .numbers-of .ensures) in
-    let w = answered h (now (a .entries)) (length (now (a .buf))) (c .before .before .before .plan .result) (c .before .before .before .before .before .numbers-of .result) (8 + 2 * c .before .before .before .before .before .before .looked-at .result) t (c .before .before .before .plan .ensures) in
-    let p = plan-accepted (numbersOf h) (now (a .entries)) (length (now (a .buf))) _ _ (sym (c .before .answer .given .1) ∙ w) in
+    let p = accepted h (now (a .entries)) (length (now (a .buf))) _ _ _ _ _ (c .before .before .before .before .before .before .looked-at .ensures) (c .before .before .before .before .before .numbers-of .ensures) (c .before .before .before .plan .ensures) (c .before .answer .given .1) in
     omega (arith, kept-given p, c .before .before .before .before .before .before .before .before .before .good)
 
 array-share-prefix-numbers-2 : tie.Need-array-share-prefix-numbers-2
@@ -129,9 +129,7 @@ part-store-end : tie.Need-part-store-end
 part-store-end c =
     let a = c .before .before .before .before .before .before .before .before .before .before .before .args in
     let h = a .header in
-    let t = first h (c .before .before .before .before .before .before .before .numbers-of .result) (c .before .before .before .before .before .before .before .before .looked-at .result) (c .before .before .before .before .before .before .before .before .looked-at .ensures) (c .before .before .before .before .before .before .before .numbers-of .ensures) in
-    let w = answered h (now (a .entries)) (length (now (a .buf))) (c .before .before .before .before .before .plan .result) (c .before .before .before .before .before .before .before .numbers-of .result) (8 + 2 * c .before .before .before .before .before .before .before .before .looked-at .result) t (c .before .before .before .before .before .plan .ensures) in
-    let p = plan-accepted (numbersOf h) (now (a .entries)) (length (now (a .buf))) _ _ (sym (c .before .before .before .answer .given .1) ∙ w) in
+    let p = accepted h (now (a .entries)) (length (now (a .buf))) _ _ _ _ _ (c .before .before .before .before .before .before .before .before .looked-at .ensures) (c .before .before .before .before .before .before .before .numbers-of .ensures) (c .before .before .before .before .before .plan .ensures) (c .before .before .before .answer .given .1) in
     omega (arith, kept-given p)
 
 store-requires : tie.Need-store-requires
@@ -139,8 +137,7 @@ store-requires c κs =
     let a = c .before .before .before .before .before .before .before .before .before .before .before .before .args in
     let h = a .header in
     let t = first h (c .before .before .before .before .before .before .before .before .numbers-of .result) (c .before .before .before .before .before .before .before .before .before .looked-at .result) (c .before .before .before .before .before .before .before .before .before .looked-at .ensures) (c .before .before .before .before .before .before .before .before .numbers-of .ensures) in
-    let w = answered h (now (a .entries)) (length (now (a .buf))) (c .before .before .before .before .before .before .plan .result) (c .before .before .before .before .before .before .before .before .numbers-of .result) (8 + 2 * c .before .before .before .before .before .before .before .before .before .looked-at .result) t (c .before .before .before .before .before .before .plan .ensures) in
-    let p = plan-accepted (numbersOf h) (now (a .entries)) (length (now (a .buf))) _ _ (sym (c .before .before .before .before .answer .given .1) ∙ w) in
+    let p = accepted h (now (a .entries)) (length (now (a .buf))) _ _ _ _ _ (c .before .before .before .before .before .before .before .before .before .looked-at .ensures) (c .before .before .before .before .before .before .before .before .numbers-of .ensures) (c .before .before .before .before .before .before .plan .ensures) (c .before .before .before .before .answer .given .1) in
     let l : length (c .before .before .before .before .before .before .before .before .numbers-of .result) ≡ 17 = search needs in
     ready (numbersOf h) (now (a .entries)) (now (a .buf)) (c .before .before .before .before .before .before .before .before .numbers-of .result) (8 + 2 * c .before .before .before .before .before .before .before .before .before .looked-at .result) _ _ p (omega (arith, small (c .before .before .before .before .before .before .before .before .before .before .before .before .args .header) (c .before .before .before .before .before .before .before .before .before .looked-at .result) (c .before .before .before .before .before .before .before .before .before .looked-at .ensures))) t
 
@@ -153,7 +150,7 @@ returns-2 c =
     let h = a .header in
     let t = first h (c .before .before .before .before .before .before .before .before .before .before .before .numbers-of .result) (c .before .before .before .before .before .before .before .before .before .before .before .before .looked-at .result) (c .before .before .before .before .before .before .before .before .before .before .before .before .looked-at .ensures) (c .before .before .before .before .before .before .before .before .before .before .before .numbers-of .ensures) in
     let w = answered h (now (a .entries)) (length (now (a .buf))) (c .before .before .before .before .before .before .before .before .before .plan .result) (c .before .before .before .before .before .before .before .before .before .before .before .numbers-of .result) (8 + 2 * c .before .before .before .before .before .before .before .before .before .before .before .before .looked-at .result) t (c .before .before .before .before .before .before .before .before .before .plan .ensures) in
-    let p = plan-accepted (numbersOf h) (now (a .entries)) (length (now (a .buf))) _ _ (sym (c .before .before .before .before .before .before .before .answer .given .1) ∙ w) in
+    let p = accepted h (now (a .entries)) (length (now (a .buf))) _ _ _ _ _ (c .before .before .before .before .before .before .before .before .before .before .before .before .looked-at .ensures) (c .before .before .before .before .before .before .before .before .before .before .before .numbers-of .ensures) (c .before .before .before .before .before .before .before .before .before .plan .ensures) (c .before .before .before .before .before .before .before .answer .given .1) in
     let l : length (c .before .before .before .before .before .before .before .before .before .before .before .numbers-of .result) ≡ 17 = search needs in
     write-done h (now (a .entries)) (now (a .buf)) _ w _ _ _ (c .before .before .before .before .before .before .before .answer .given .1)
     (stored-report (numbersOf h) (now (a .entries)) (now (a .buf)) (c .before .before .before .before .before .before .before .before .before .before .before .numbers-of .result) (8 + 2 * c .before .before .before .before .before .before .before .before .before .before .before .before .looked-at .result) _ _ p (omega (arith, small (c .before .before .before .before .before .before .before .before .before .before .before .before .before .before .before .args .header) (c .before .before .before .before .before .before .before .before .before .before .before .before .looked-at .result) (c .before .before .before .before .before .before .before .before .before .before .before .before .looked-at .ensures))) t _ (c .before .before .store .ensures))

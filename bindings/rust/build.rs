@@ -1,0 +1,32 @@
+//! Says where liblumbixet.a is: in the folder that LUMBIXET_LIB_DIR names; where it names none, in this checkout
+//! (`make archive`), else where pkg-config finds the installed one.
+
+use std::path::{Path, PathBuf};
+use std::process::Command;
+
+fn main() {
+    println!("cargo:rerun-if-env-changed=LUMBIXET_LIB_DIR");
+    let named = std::env::var_os("LUMBIXET_LIB_DIR").map(PathBuf::from);
+    let found = named.map_or_else(|| built().or_else(installed), holding_it);
+    let folder = found.unwrap_or_else(|| {
+        eprintln!("liblumbixet.a was not found: run 'make archive' in Lumbixet's checkout, install the library where");
+        eprintln!("pkg-config finds it, or name the folder that holds it in LUMBIXET_LIB_DIR");
+        std::process::exit(1)
+    });
+    println!("cargo:rerun-if-changed={}", folder.join("liblumbixet.a").display());
+    println!("cargo:rustc-link-search=native={}", folder.display());
+}
+
+fn holding_it(folder: PathBuf) -> Option<PathBuf> {
+    folder.join("liblumbixet.a").is_file().then(|| folder)
+}
+
+fn built() -> Option<PathBuf> {
+    holding_it(Path::new(&std::env::var_os("CARGO_MANIFEST_DIR")?).join("../../target/lib"))
+}
+
+fn installed() -> Option<PathBuf> {
+    let asked = Command::new("pkg-config").args(["--variable=libdir", "lumbixet"]).output().ok()?;
+    let folder = String::from_utf8(asked.stdout).ok()?;
+    holding_it(PathBuf::from(folder.trim_end()))
+}

@@ -1,0 +1,69 @@
+//! Lumbixet, the receiver of a live hearing, for hosts in Rust: which acknowledgments a QUIC receiver owes its sender, the
+//! frames that say so, and feedback reports. A safe interface over liblumbixet.a, whose every function is proved.
+//!
+//! No call allocates, waits, or keeps anything between calls. A refused call changes nothing.
+//!
+//! A host names this folder in its Cargo.toml: `lumbixet = { path = ".." }`. The archive is sought in the folder that
+//! LUMBIXET_LIB_DIR names; where it names none, in this checkout (`make archive`), then where pkg-config finds one.
+//! docs/DRIVING.md shows the order of calls.
+//!
+//! ```
+//! use lumbixet::{Cause, Micros, Millis, Packet, Receiver, ACK_ROOM};
+//! # fn main() -> Result<(), lumbixet::Refusal> {
+//! let mut receiver = Receiver::open(1000, 3, Millis(25), Micros(1000))?;
+//! let packet = |number, time| Packet { number, time: Micros(time), eliciting: true, marked: false };
+//! assert_eq!(receiver.packet(packet(0, 1000))?, None);
+//! assert_eq!(receiver.wake(), Some(Micros(26000)));
+//! assert_eq!(receiver.packet(packet(4, 2000))?, Some(Cause::Order)); // 1 to 3 are missing
+//! let mut buffer = [0; ACK_ROOM];
+//! let frame = receiver.write(Micros(2000), &mut buffer)?;
+//! assert_eq!(frame, [0x02, 4, 0, 1, 0, 2, 0]);
+//! # Ok(())
+//! # }
+//! ```
+#![no_std]
+#![deny(missing_docs)]
+
+#[cfg(any(test, feature = "std"))]
+extern crate std;
+
+mod frames;
+pub mod raw;
+mod receiver;
+mod refusal;
+mod report;
+
+pub use frames::{read_number, write_number, Ack, Frequency, Immediate};
+pub use receiver::{Heard, Packet, Receiver};
+pub use refusal::{Cause, Refusal};
+pub use report::{Entries, Entry, Header, Metrics, Report, Status, Written};
+
+/// Microseconds: times, the minimum delay, and the delay in force.
+#[derive(Clone, Copy, Debug, Default, PartialEq, Eq, PartialOrd, Ord, Hash)]
+pub struct Micros(pub u64);
+
+/// Milliseconds: the own maximum delay.
+#[derive(Clone, Copy, Debug, Default, PartialEq, Eq, PartialOrd, Ord, Hash)]
+pub struct Millis(pub u64);
+
+/// The largest number, threshold and time: 2^62 - 1.
+pub const LARGEST: u64 = (1 << 62) - 1;
+
+/// Bytes that hold an ACK frame with every range of the window, at any time.
+pub const ACK_ROOM: usize = 1042;
+
+/// Bytes that hold every ACK_FREQUENCY frame.
+pub const FREQUENCY_ROOM: usize = 34;
+
+/// Bytes that hold every report: four metrics and 50 entries.
+pub const REPORT_ROOM: usize = 894;
+
+/// How many numbers [`Ack::read`] needs at most for the ranges of a frame in so many bytes.
+#[must_use]
+pub const fn ranges_room(bytes: usize) -> usize {
+    if bytes > 5 {
+        bytes - 3
+    } else {
+        2
+    }
+}

@@ -1,0 +1,204 @@
+//! The calls and records of liblumbixet.a as include/lumbixet.h declares them; that header says what each means.
+//! The second implementation (tools/paper) is held against the archive through this same file.
+
+/// `lumbixet_receiver`: what may be absent is kept as an end, one past the number, with 0 for none.
+#[repr(C)]
+#[derive(Clone, Copy, Debug, Default, PartialEq, Eq)]
+pub struct Receiver {
+    /// Which of the last 1,024 numbers were received: bit 1023 is the largest.
+    pub window: [u64; 16],
+    /// The end of the largest received number.
+    pub end: u64,
+    /// When that arrived, in microseconds.
+    pub arrived: u64,
+    /// Ack-eliciting packets since the last written ACK.
+    pub pending_count: u64,
+    /// The end of the largest of their numbers.
+    pub pending_end: u64,
+    /// When the first of them arrived, in microseconds.
+    pub pending_first: u64,
+    /// The ack-eliciting threshold in force.
+    pub threshold: u64,
+    /// The reordering threshold in force.
+    pub reordering: u64,
+    /// The delay in force, in microseconds.
+    pub delay: u64,
+    /// The end of the largest ACK_FREQUENCY sequence processed.
+    pub sequence: u64,
+    /// The own maximum delay, in milliseconds.
+    pub maximum: u64,
+    /// The own minimum delay, in microseconds.
+    pub minimum: u64,
+    /// The end of the largest acknowledged number.
+    pub acknowledged: u64,
+    /// The end of the highest ack-eliciting number.
+    pub highest: u64,
+    /// The last accepted packet's CE mark.
+    pub marked: bool,
+    /// Why an acknowledgment is due.
+    pub cause: u64,
+}
+
+/// `lumbixet_answer`: a call's result and the next record.
+#[repr(C)]
+#[derive(Clone, Copy, Debug, PartialEq, Eq)]
+#[allow(missing_docs)]
+pub struct Answer {
+    pub result: u64,
+    pub next: Receiver,
+}
+
+/// `lumbixet_wrote`: what the write call answers.
+#[repr(C)]
+#[derive(Clone, Copy, Debug, PartialEq, Eq)]
+#[allow(missing_docs)]
+pub struct Wrote {
+    pub result: u64,
+    pub length: u64,
+    pub next: Receiver,
+}
+
+/// `lumbixet_number`: a number that was read, and the place after it.
+#[repr(C)]
+#[derive(Clone, Copy, Debug, Default, PartialEq, Eq)]
+#[allow(missing_docs)]
+pub struct Number {
+    pub result: u64,
+    pub value: u64,
+    pub next: u64,
+}
+
+/// `lumbixet_put`: the place after what was written.
+#[repr(C)]
+#[derive(Clone, Copy, Debug, Default, PartialEq, Eq)]
+#[allow(missing_docs)]
+pub struct Put {
+    pub result: u64,
+    pub next: u64,
+}
+
+/// `lumbixet_frequency`: the four values of an ACK_FREQUENCY frame, and its length.
+#[repr(C)]
+#[derive(Clone, Copy, Debug, Default, PartialEq, Eq)]
+#[allow(missing_docs)]
+pub struct FrequencyFrame {
+    pub result: u64,
+    pub sequence: u64,
+    pub threshold: u64,
+    pub delay: u64,
+    pub reordering: u64,
+    pub used: u64,
+}
+
+/// `lumbixet_immediate_frame`: an IMMEDIATE_ACK frame's length.
+#[repr(C)]
+#[derive(Clone, Copy, Debug, Default, PartialEq, Eq)]
+#[allow(missing_docs)]
+pub struct ImmediateFrame {
+    pub result: u64,
+    pub used: u64,
+}
+
+/// `lumbixet_ack`: an ACK frame's numbers; its ranges stand in the lent slice.
+#[repr(C)]
+#[derive(Clone, Copy, Debug, Default, PartialEq, Eq)]
+#[allow(missing_docs)]
+pub struct AckFrame {
+    pub result: u64,
+    pub largest: u64,
+    pub delay: u64,
+    pub ranges: u64,
+    pub used: u64,
+}
+
+/// `lumbixet_header`: the summary of a report, and its metrics.
+#[repr(C)]
+#[derive(Clone, Copy, Debug, Default, PartialEq, Eq)]
+#[allow(missing_docs)]
+pub struct Header {
+    pub timestamp: u64,
+    pub interval: u64,
+    pub total: u64,
+    pub received: u64,
+    pub late: u64,
+    pub lost: u64,
+    pub average: i64,
+    pub metrics: u64,
+    pub kinds: [u64; 4],
+    pub values: [u64; 4],
+    pub entries: u64,
+}
+
+/// `lumbixet_report`: what reading a report finds.
+#[repr(C)]
+#[derive(Clone, Copy, Debug, Default, PartialEq, Eq)]
+#[allow(missing_docs)]
+pub struct Report {
+    pub result: u64,
+    pub header: Header,
+}
+
+/// `lumbixet_entries`: where the entries of a report stand in the caller's own bytes.
+#[repr(C)]
+#[derive(Clone, Copy, Debug, Default, PartialEq, Eq)]
+#[allow(missing_docs)]
+pub struct Entries {
+    pub start: u64,
+    pub length: u64,
+}
+
+/// `lumbixet_entry`: one entry.
+#[repr(C)]
+#[derive(Clone, Copy, Debug, Default, PartialEq, Eq)]
+#[allow(missing_docs)]
+pub struct EntryFound {
+    pub result: u64,
+    pub object: u64,
+    pub status: u64,
+    pub age: u64,
+}
+
+/// `lumbixet_written`: what the writer of reports answers.
+#[repr(C)]
+#[derive(Clone, Copy, Debug, Default, PartialEq, Eq)]
+#[allow(missing_docs)]
+pub struct Written {
+    pub result: u64,
+    pub next: u64,
+    pub kept: u64,
+}
+
+#[link(name = "lumbixet", kind = "static")]
+#[allow(missing_docs)]
+extern "C" {
+    pub fn lumbixet_read_number(bytes: *const u8, length: usize, at: usize) -> Number;
+    pub fn lumbixet_put_number(buffer: *mut u8, length: usize, at: usize, value: u64) -> Put;
+    pub fn lumbixet_read_frequency(bytes: *const u8, length: usize) -> FrequencyFrame;
+    pub fn lumbixet_read_immediate(bytes: *const u8, length: usize) -> ImmediateFrame;
+    pub fn lumbixet_read_ack(bytes: *const u8, length: usize, ranges: *mut u64, room: usize) -> AckFrame;
+    pub fn lumbixet_put_frequency(
+        buffer: *mut u8,
+        length: usize,
+        sequence: u64,
+        threshold: u64,
+        delay: u64,
+        reordering: u64,
+    ) -> Put;
+    pub fn lumbixet_put_immediate(buffer: *mut u8, length: usize) -> Put;
+    pub fn lumbixet_open(threshold: u64, reordering: u64, maximum_ms: u64, minimum_us: u64) -> Answer;
+    pub fn lumbixet_packet(receiver: Receiver, number: u64, time_us: u64, eliciting: bool, marked: bool) -> Answer;
+    pub fn lumbixet_timer(receiver: Receiver, time_us: u64) -> Answer;
+    pub fn lumbixet_threshold(receiver: Receiver, sequence: u64, threshold: u64, delay_us: u64, reordering: u64) -> Answer;
+    pub fn lumbixet_immediate(receiver: Receiver) -> Answer;
+    pub fn lumbixet_write(receiver: Receiver, time_us: u64, buffer: *mut u8, length: usize) -> Wrote;
+    pub fn lumbixet_read_report(bytes: *const u8, length: usize) -> Report;
+    pub fn lumbixet_find_entries(bytes: *const u8, length: usize) -> Entries;
+    pub fn lumbixet_read_entry(entries: *const u8, length: usize, index: usize) -> EntryFound;
+    pub fn lumbixet_write_report(
+        buffer: *mut u8,
+        length: usize,
+        header: Header,
+        records: *const u8,
+        records_length: usize,
+    ) -> Written;
+}

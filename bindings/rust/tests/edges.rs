@@ -1,0 +1,99 @@
+//! Empty slices, every refusal and cause by name, records that were made up, and what the C headers say too.
+
+use lumbixet::*;
+
+/// What hosts in C read.
+const HEADERS: &str = concat!(include_str!("../../../include/lumbixet.h"), include_str!("../../../include/lumbixet_text.h"));
+
+/// An empty slice is served like any other.
+#[test]
+fn empty_slices() {
+    let mut receiver = Receiver::default();
+    assert_eq!(receiver.write(Micros(0), &mut []), Err(Refusal::NothingYet));
+    assert_eq!(receiver.packet(Packet { number: 0, time: Micros(0), eliciting: true, marked: false }), Ok(None));
+    assert_eq!(receiver.write(Micros(0), &mut []), Err(Refusal::NoRoom));
+    assert_eq!(read_number(&[]), Err(Refusal::Ends));
+    assert_eq!(write_number(0, &mut []), Err(Refusal::NoRoom));
+    assert_eq!(Frequency::read(&[]), Err(Refusal::Ends));
+    assert_eq!(Immediate::read(&[]), Err(Refusal::Ends));
+    assert_eq!(Immediate.write(&mut []), Err(Refusal::NoRoom));
+    assert_eq!(Ack::read(&[], &mut []), Err(Refusal::Ends));
+    assert_eq!(Ack::read(&[0x02, 0, 0, 0, 0], &mut []), Err(Refusal::NoRoom));
+    assert_eq!(Report::read(&[]), Err(Refusal::Ends));
+    assert_eq!(Entry::read(&[], 0), Err(Refusal::Ends));
+    assert_eq!(Header::default().write(&mut [], &[]), Err(Refusal::NoRoom));
+    let mut buffer = [0; REPORT_ROOM];
+    let written = Header::default().write(&mut buffer, &[]).unwrap();
+    assert_eq!((written.bytes, written.kept), (&[0; 9][..], 0));
+    assert!(Report::read(written.bytes).unwrap().entries.is_empty());
+}
+
+#[test]
+fn numbers_and_rest() {
+    let mut buffer = [0; 8];
+    assert_eq!(write_number(15293, &mut buffer), Ok(&[0x7b, 0xbd][..]));
+    assert_eq!(read_number(&buffer[..3]), Ok((15293, &[0][..])));
+    assert_eq!(write_number(LARGEST + 1, &mut buffer), Err(Refusal::TooLarge));
+    assert_eq!(Immediate::read(&[0x1f, 7, 8]), Ok((Immediate, &[7, 8][..])));
+}
+
+/// Each number has a name, and the name its number; words and numbers are those of the C header.
+#[test]
+fn names_are_the_headers() {
+    for number in 1..15 {
+        let refusal = Refusal::from_number(number);
+        assert_eq!(refusal.number(), number);
+        assert!(HEADERS.contains(&format!("\"{refusal}\"")), "the header has other words than: {refusal}");
+    }
+    assert_eq!(Refusal::from_number(15), Refusal::Unknown(15));
+    assert_eq!(Refusal::Unknown(15).to_string(), "unknown");
+    for number in 1..6 {
+        let cause = Cause::from_number(number).unwrap();
+        assert_eq!(cause.number(), number);
+        assert!(HEADERS.contains(&format!("\"{cause}\"")), "the header has other words than: {cause}");
+    }
+    assert_eq!((Cause::from_number(0), Cause::from_number(6)), (None, None));
+    for line in [
+        format!("#define LUMBIXET_LARGEST UINT64_C({LARGEST})"),
+        format!("#define LUMBIXET_ACK_ROOM {ACK_ROOM}"),
+        format!("#define LUMBIXET_FREQUENCY_ROOM {FREQUENCY_ROOM}"),
+        format!("#define LUMBIXET_REPORT_ROOM {REPORT_ROOM}"),
+    ] {
+        assert!(HEADERS.contains(&line), "the header does not say: {line}");
+    }
+    let manifest = include_str!("../Cargo.toml");
+    let version = manifest.lines().find_map(|line| line.strip_prefix("version = ")).unwrap();
+    assert!(HEADERS.contains(&format!("#define LUMBIXET_VERSION_TEXT {version}\n")));
+}
+
+#[test]
+fn kept_and_made_up_records() {
+    let receiver = Receiver::open(7, 2, Millis(30), Micros(2000)).unwrap();
+    assert_eq!(Receiver::from_record(*receiver.record()), receiver);
+    let mut broken = *receiver.record();
+    broken.cause = 6;
+    let mut broken = Receiver::from_record(broken);
+    assert_eq!(broken.timer(Micros(0)), Err(Refusal::Inconsistent));
+    assert_eq!(broken.cause(), None);
+    assert_eq!(Receiver::open(1, 1, Millis(16384), Micros(0)), Err(Refusal::Delay));
+    assert_eq!(Receiver::open(LARGEST + 1, 1, Millis(25), Micros(0)), Err(Refusal::TooLarge));
+}
+
+/// Every metric by a value of its own, and a status of each kind.
+#[test]
+fn a_whole_report() {
+    let metrics = Metrics { playout_ahead_ms: Some(51), peer_loss_per_mille: Some(54), ..Metrics::default() };
+    let header = Header { timestamp: Micros(1001), interval: Micros(1002), average: -7, metrics, ..Header::default() };
+    let header = Header { total: 60, received: 10, late: 20, lost: 30, ..header };
+    let all = [Status::Received, Status::Late, Status::NotReceived, Status::Partial];
+    let age = |status| if status == Status::NotReceived { 0 } else { 256 };
+    let entries = [0, 1, 2, 3].map(|i| Entry { object: 7 + i as u64, status: all[i], age: age(all[i]) });
+    let mut buffer = [0; REPORT_ROOM];
+    let written = header.write(&mut buffer, &entries.map(|entry| entry.record())).unwrap();
+    let report = Report::read(written.bytes).unwrap();
+    assert_eq!(report.header, header);
+    assert!(report.entries.iter().eq(entries));
+    assert_eq!((report.entries.len(), report.entries.get(1), report.entries.get(4)), (4, Some(entries[1]), None));
+    let sum = Header { lost: 31, ..header };
+    assert_eq!(sum.write(&mut buffer, &[]), Err(Refusal::Sum));
+}

@@ -1,0 +1,191 @@
+//! The story of examples/room.c, told through this interface: it must print what examples/room.expected says.
+
+use lumbixet::*;
+use std::fmt::Write;
+
+const ROOM: usize = 64;
+
+/// A receiver, and the sentences told of it so far.
+struct Room {
+    receiver: Receiver,
+    told: String,
+}
+
+impl Room {
+    fn say(&mut self, words: &str) {
+        self.told.push_str(words);
+    }
+
+    /// Ends the sentence on a call with what came of it.
+    fn came_to(&mut self, answer: Result<Option<Cause>, Refusal>) {
+        self.say(&match answer {
+            Err(refusal) => refused(refusal),
+            Ok(None) => " Nothing is due.\n".to_string(),
+            Ok(Some(cause)) => format!(" An acknowledgment is due: {cause}.\n"),
+        });
+    }
+
+    fn rules(&mut self) {
+        let gap = match self.receiver.reordering_threshold() {
+            0 => "never for a gap".to_string(),
+            reordering => format!("for a gap that reaches {reordering}"),
+        };
+        let (threshold, Micros(delay)) = (self.receiver.ack_eliciting_threshold(), self.receiver.delay());
+        self.say(&format!("An acknowledgment is due for more than {threshold} packets, {gap}, or after {delay} microseconds.\n"));
+    }
+
+    fn packet(&mut self, number: u64, time: u64, marked: bool) {
+        self.say(&format!("At {time} packet {number} arrives{}.", if marked { " with a congestion mark" } else { "" }));
+        let before = self.receiver;
+        let answer = self.receiver.packet(Packet { number, time: Micros(time), eliciting: true, marked });
+        assert!(answer.is_ok() || self.receiver == before, "a refused call changed the record");
+        self.came_to(answer);
+    }
+
+    fn timer(&mut self, time: u64) {
+        self.say(&format!("At {time} the timer is looked at."));
+        let answer = self.receiver.timer(Micros(time));
+        self.came_to(answer);
+    }
+
+    /// Writes an acknowledgment, and reads it back as the sender will.
+    fn acknowledge(&mut self, time: u64, room: usize) {
+        let mut buffer = [0; ROOM];
+        let mut ranges = [0; ranges_room(ROOM)];
+        self.say(&format!("At {time} an acknowledgment is written into {room} bytes"));
+        let frame = match self.receiver.write(Micros(time), &mut buffer[..room]) {
+            Ok(frame) => frame,
+            Err(refusal) => return self.say(&format!(".{}", refused(refusal))),
+        };
+        self.say(&format!(":{}.\n", hex(frame)));
+        let (ack, rest) = Ack::read(frame, &mut ranges).expect("what was written is read");
+        assert!(rest.is_empty());
+        let arrived: Vec<_> = ack.ranges().map(|range| format!(" {} to {} arrived", range.start(), range.end())).collect();
+        let since = 8 * ack.delay;
+        self.say(&format!("  Read back, it says {since} microseconds after packet {}:{}.\n", ack.largest, arrived.join(",")));
+    }
+
+    fn hear(&mut self, frame: Frequency) {
+        match self.receiver.threshold(frame) {
+            Ok(Heard::Changed) => self.came_to(Ok(self.receiver.cause())),
+            Ok(Heard::Stale) => self.say(" It is stale: nothing changed.\n"),
+            Err(refusal) => self.say(&refused(refusal)),
+        }
+    }
+
+    fn other_rules(&mut self) {
+        let mut buffer = [0; FREQUENCY_ROOM];
+        let sent = Frequency { sequence: 5, threshold: 2, delay: Micros(5000), reordering: 0 };
+        let bytes = sent.write(&mut buffer).expect("there is room");
+        self.say(&format!("The sender's frame is{}.\n", hex(bytes)));
+        let (frame, rest) = Frequency::read(bytes).expect("what was written is read");
+        assert_eq!((frame, rest.len()), (sent, 0));
+        let Frequency { sequence, threshold, delay: Micros(delay), reordering } = frame;
+        self.say(&format!("  Read, it has sequence {sequence}, threshold {threshold}, delay {delay} and "));
+        self.say(&format!("reordering threshold {reordering}.\nThe frame is heard."));
+        self.hear(frame);
+        self.rules();
+        self.say("The frame is heard.");
+        self.hear(frame);
+        self.say("A frame with sequence 6 asks for a delay of 16384000.");
+        self.hear(Frequency { sequence: 6, delay: Micros(16_384_000), ..frame });
+    }
+
+    fn asked(&mut self) {
+        let mut buffer = [0; 1];
+        let bytes = Immediate.write(&mut buffer).expect("there is room");
+        assert_eq!(Immediate::read(bytes), Ok((Immediate, &[][..])));
+        self.say(&format!("The sender's frame is{}.", hex(bytes)));
+        let answer = self.receiver.immediate();
+        self.came_to(answer);
+    }
+
+    /// Reads a report, and says what became of each object that it has an entry for.
+    fn read_report(&mut self, bytes: &[u8]) {
+        let report = match Report::read(bytes) {
+            Ok(report) => report,
+            Err(refusal) => return self.say(&refused(refusal)),
+        };
+        let Header { total, received, late, lost, average, .. } = report.header;
+        self.say(&format!("Read back: {total} objects, {received} received, {late} late, {lost} lost, "));
+        self.say(&format!("average deviation {average} microseconds.\n"));
+        for Entry { object, status, age } in report.entries.iter() {
+            let how = match status {
+                Status::NotReceived => {
+                    self.say(&format!("  Object {object} did not come.\n"));
+                    continue;
+                }
+                Status::Received => "in time",
+                Status::Late => "late",
+                Status::Partial => "in part",
+            };
+            self.say(&format!("  Object {object} came {how}, {age} microseconds before the report.\n"));
+        }
+    }
+
+    fn report(&mut self) {
+        let entry = |object, status, age| Entry { object, status, age }.record();
+        let records = [entry(100, Status::Received, 40000), entry(101, Status::Late, 20000), entry(102, Status::NotReceived, 0)];
+        let summary = Header { total: 3, received: 1, late: 1, lost: 1, average: -2, ..Header::default() };
+        let header = Header { timestamp: Micros(1_000_000), interval: Micros(100_000), ..summary };
+        let mut buffer = [0; 47];
+        let Written { bytes, kept } = header.write(&mut buffer, &records).expect("there is room");
+        self.say(&format!("A report of 3 objects is written into 47 bytes. It takes {}, ", bytes.len()));
+        self.say(&format!("and keeps the last {kept} of 3 records.\n"));
+        let entries = Report::read(bytes).expect("what was written is read").entries;
+        assert_eq!(entries.bytes().as_ptr_range().end, bytes.as_ptr_range().end, "the entries are lent, not copied");
+        self.say(&format!("  Its numbers are{}.\n", hex(&bytes[..bytes.len() - entries.bytes().len()])));
+        self.read_report(bytes);
+        self.say("The report without its last byte.");
+        self.read_report(&bytes[..bytes.len() - 1]);
+    }
+}
+
+fn refused(refusal: Refusal) -> String {
+    format!(" Refused with {}: {refusal}.\n", refusal.number())
+}
+
+fn hex(bytes: &[u8]) -> String {
+    bytes.iter().fold(String::new(), |mut text, byte| {
+        write!(text, " {byte:02x}").expect("a string takes it");
+        text
+    })
+}
+
+#[test]
+fn the_room() {
+    let receiver = Receiver::open(1000, 3, Millis(25), Micros(1000)).expect("the opening is in order");
+    let mut room = Room { receiver, told: "A packet is lost\n".to_string() };
+    room.rules();
+    for (number, time) in [(0, 1000), (1, 2000), (3, 4000), (4, 5000), (5, 6000), (5, 6100)] {
+        room.packet(number, time, false);
+    }
+    room.acknowledge(6400, ROOM);
+
+    room.say("\nThe sender asks for other rules\n");
+    room.other_rules();
+
+    room.say("\nThe timer runs\n");
+    room.packet(6, 20000, false);
+    assert_eq!(room.receiver.wake(), Some(Micros(25000)));
+    room.timer(24999);
+    room.timer(25000);
+    assert_eq!(room.receiver.wake(), None);
+    room.acknowledge(25000, ROOM);
+
+    room.say("\nThe lost packet comes after all\n");
+    for (number, time) in [(2, 26000), (7, 27000), (8, 28000)] {
+        room.packet(number, time, false);
+    }
+    room.acknowledge(28000, ROOM);
+
+    room.say("\nThe network is congested, and the sender asks\n");
+    room.packet(9, 29000, true);
+    room.acknowledge(29000, 4);
+    room.acknowledge(29000, 5);
+    room.asked();
+
+    room.say("\nThe report\n");
+    room.report();
+    assert_eq!(room.told, include_str!("../../../examples/room.expected"));
+}

@@ -1,0 +1,46 @@
+/* Lumbixet's numbers in words, for a log. lumbixet.h includes it. */
+#ifndef LUMBIXET_TEXT_H
+#define LUMBIXET_TEXT_H
+
+#include "lumbixet.h"
+
+/* What a `result` says; "unknown" for a number that no call of this version gives. */
+static inline const char *lumbixet_refusal_text(uint64_t result)
+{
+    static const char *const texts[] = {
+        "accepted",
+        "the record is not consistent",
+        "the bytes end inside a field",
+        "the frame type is another one",
+        "a delay breaks the delay rule",
+        "a number is too large",
+        "this packet was received before",
+        "this packet lies below the window",
+        "nothing has been received yet",
+        "the output does not fit the room",
+        "a metric count, metric type or entry count breaks its rule",
+        "the total differs from its parts",
+        "an entry breaks its rule",
+        "bytes remain after the report",
+        "a range goes below number 0",
+    };
+    if (result == LUMBIXET_STALE)
+        return "the frame is stale";
+    return result < sizeof texts / sizeof texts[0] ? texts[result] : "unknown";
+}
+
+/* What a record's `cause` says; "unknown" for a number that no consistent record holds. */
+static inline const char *lumbixet_cause_text(uint64_t cause)
+{
+    static const char *const texts[] = {
+        "nothing is due",
+        "the sender asked for it",
+        "more packets came than the threshold",
+        "packets are missing or came out of order",
+        "a run of congestion marks began",
+        "the delay in force has passed",
+    };
+    return cause < sizeof texts / sizeof texts[0] ? texts[cause] : "unknown";
+}
+
+#endif

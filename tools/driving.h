@@ -1,0 +1,9 @@
+/* What the C of docs/DRIVING.md leaves to the host, so that `make host` can see that it compiles. */
+#include <inttypes.h>
+#include <stdio.h>
+
+#include "lumbixet.h"
+
+bool transmit(const uint8_t *frame, uint64_t length);
+void on_frames(const uint8_t *frames, size_t length);
+void set_alarm(uint64_t time);
