@@ -26,10 +26,9 @@ uint64_t compared(void)
     return count;
 }
 
-/* Field by field: what fills up behind the bool is not looked at. */
 bool same_record(const lumbixet_receiver *a, const lumbixet_receiver *b)
 {
-    return memcmp(a, b, offsetof(lumbixet_receiver, marked)) == 0 && a->marked == b->marked && a->cause == b->cause;
+    return memcmp(a, b, sizeof *a) == 0;
 }
 
 void check_answer(const lumbixet_answer *a, const lumbixet_answer *b, const char *call)

@@ -149,10 +149,7 @@ static lumbixet_receiver spoiled(lumbixet_receiver r)
 {
     size_t word = below(sizeof r / 8);
     uint64_t value = spoiled_value(&r);
-    if (word == offsetof(lumbixet_receiver, marked) / 8)
-        r.marked = !r.marked;
-    else
-        memcpy((uint8_t *)&r + 8 * word, &value, 8);
+    memcpy((uint8_t *)&r + 8 * word, &value, 8);
     return r;
 }
 

@@ -95,7 +95,7 @@ static inline uint64_t take_packet(lumbixet_receiver *r, uint64_t number, uint64
     uint64_t refusal = packet_refusal(r, number, time_us);
     if (refusal)
         return refusal;
-    bool begins = marked && (r->end == 0 || !r->marked);
+    bool begins = marked && (r->end == 0 || r->ce == 0);
     uint64_t highest = r->highest;
     if (number < r->end) {
         mark(r->window, place_of(r, number));
@@ -105,7 +105,7 @@ static inline uint64_t take_packet(lumbixet_receiver *r, uint64_t number, uint64
         r->end = number + 1;
         r->arrived = time_us;
     }
-    r->marked = marked;
+    r->ce = marked;
     if (!eliciting)
         return LUMBIXET_ACCEPTED;
     if (r->pending_count == 0)

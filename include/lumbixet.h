@@ -8,8 +8,8 @@
  * A pointer with its length names that many elements, all readable, and writable where the pointer is not
  * const; with length 0 the pointer must still not be NULL. Two lent parts of one call must not overlap.
  * A uint64_t * is aligned as C aligns a uint64_t, to 8 bytes; bytes need no alignment.
- * A bool holds 0 or 1: C gives any other byte no meaning, and neither does Lumbixet. Every other byte of
- * a record may hold anything: a record that is not consistent is refused with 1.
+ * A bool holds 0 or 1: C gives any other byte no meaning, and neither does Lumbixet. Every byte of a
+ * record may hold anything: a record that is not consistent is refused with 1.
  *
  * Records and answers hold numbers and no pointers: they may be copied, kept, and compared by their bytes.
  * Threads: no state is shared between calls. Any number of them may run at once; where two lend the same
@@ -176,7 +176,7 @@ typedef struct {
     uint64_t minimum;           /* the own minimum delay, in microseconds */
     uint64_t acknowledged;      /* the end of the largest acknowledged number */
     uint64_t highest;           /* the end of the highest ack-eliciting number */
-    bool marked;                /* the last accepted packet's CE mark */
+    uint64_t ce;                /* not 0 exactly where the last accepted packet had the CE mark */
     uint64_t cause;             /* why an acknowledgment is due */
 } lumbixet_receiver;
 

@@ -46,7 +46,7 @@ AT(lumbixet_receiver, maximum, 200);
 AT(lumbixet_receiver, minimum, 208);
 AT(lumbixet_receiver, acknowledged, 216);
 AT(lumbixet_receiver, highest, 224);
-AT(lumbixet_receiver, marked, 232);
+AT(lumbixet_receiver, ce, 232);
 AT(lumbixet_receiver, cause, 240);
 AT(lumbixet_answer, next, 8);
 AT(lumbixet_wrote, length, 8);
@@ -181,7 +181,7 @@ static void record(void)
     SAME(r.minimum, 14);
     SAME(r.acknowledged, 10);
     SAME(r.highest, 6);
-    SAME(r.marked, true);
+    SAME(r.ce, 1);
     SAME(r.cause, LUMBIXET_TIMER);
 
     lumbixet_answer stale = lumbixet_threshold(r, 77, 1, 50000, 1);

@@ -29,7 +29,7 @@ pub fn record_of(raw: &Receiver) -> Record {
         pending_largest: number_of(raw.pending_end),
         pending: raw.pending_count,
         pending_first: raw.pending_first,
-        marked: raw.marked,
+        ce: raw.ce,
         threshold: raw.threshold,
         reordering: raw.reordering,
         delay: raw.delay,
@@ -82,7 +82,7 @@ pub fn raw_of(record: &Record) -> Receiver {
         minimum: record.minimum_us,
         acknowledged: end_of(record.acknowledged),
         highest: end_of(record.highest),
-        marked: record.marked,
+        ce: record.ce,
         cause: record.cause,
     }
 }

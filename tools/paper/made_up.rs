@@ -52,7 +52,7 @@ pub fn consistent(random: &mut Random) -> Record {
         pending_largest,
         pending: pending_largest.map_or(0, |_| 1 + up_to(random, LARGEST)),
         pending_first: up_to(random, LARGEST),
-        marked: random.chance(500),
+        ce: if random.chance(500) { 0 } else { random.any() },
         threshold: up_to(random, LARGEST),
         reordering: reordering(random),
         delay: minimum_us + up_to(random, 16_383_999 - minimum_us),
@@ -122,12 +122,12 @@ fn any_bytes(random: &mut Random) -> Receiver {
         &mut raw.minimum,
         &mut raw.acknowledged,
         &mut raw.highest,
+        &mut raw.ce,
         &mut raw.cause,
     ];
     for field in fields {
         *field = random.any() >> random.below(64);
     }
-    raw.marked = random.chance(500);
     raw
 }
 

@@ -62,7 +62,7 @@ fn opened(threshold: u64, reordering: u64, maximum_ms: u64, minimum_us: u64) -> 
         pending_largest: None,
         pending: 0,
         pending_first: 0,
-        marked: false,
+        ce: 0,
         threshold,
         reordering,
         // "The delay in force starts as the maximum in microseconds."
@@ -80,7 +80,7 @@ pub fn packet(record: Record, number: u64, time: u64, eliciting: bool, marked: b
     answer(record, judged, |next| {
         let earlier_highest = next.highest;
         // "the previously accepted packet, of either kind, had not, or there was none"
-        let earlier_marked = next.largest.is_some() && next.marked;
+        let earlier_marked = next.largest.is_some() && next.ce != 0;
         mark(next, number, time);
         if eliciting {
             count(next, number, time);
@@ -89,7 +89,7 @@ pub fn packet(record: Record, number: u64, time: u64, eliciting: bool, marked: b
                 next.cause = first_that_holds(next, number, earlier_highest, marked && !earlier_marked);
             }
         }
-        next.marked = marked;
+        next.ce = u64::from(marked);
     })
 }
 

@@ -31,7 +31,7 @@ pub struct Record {
     /// "the arrival time of the first of them", in microseconds.
     pub pending_first: u64,
     /// "the last accepted packet's CE mark"
-    pub marked: bool,
+    pub ce: u64,
     /// "an ack-eliciting threshold T", in force.
     pub threshold: u64,
     /// "a reordering threshold R", in force. 0: never; 1: RFC 9000's rule; from 2 up: 004's.

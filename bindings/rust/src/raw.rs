@@ -33,8 +33,8 @@ pub struct Receiver {
     pub acknowledged: u64,
     /// The end of the highest ack-eliciting number.
     pub highest: u64,
-    /// The last accepted packet's CE mark.
-    pub marked: bool,
+    /// Not 0 exactly where the last accepted packet had the CE mark.
+    pub ce: u64,
     /// Why an acknowledgment is due.
     pub cause: u64,
 }

@@ -10,12 +10,12 @@ use Rattle.receiver.specs.Record.{limitsRule, delayRule, pendingConsistent, agr
 use Rattle.receiver.specs.Packet.{packetRefusal, pendingAfter, outOfOrder, gapReached, order, congestion, firstCause, causeAfter, packetAfter, packetCall}
 use Rattle.receiver.specs.Calls.{opened}
 use Rattle.seen.specs.Ack.{rangesBelow, frame, largestWhere, rangesKept}
-use Rattle.receiver.specs.Write.{writeRefusal, written, writeAnswer}
+use Rattle.receiver.specs.Write.{writeRefusal, afterWrite, writeAnswer}
 use Rattle.events.specs.Events.{readEvent, writeCall, eventCall, recordCall}
 use Rattle.events.specs.Lines.{placesFrom, placesOf, decimal, line}
 use Rattle.events.specs.Replay.{linesOf}
 use Rattle.events.specs.Settled.{SevenLines}
 
 pub seven-lines : SevenLines
-unfolding linesOf recordCall readEvent eventCall writeCall line decimal placesOf placesFrom opened packetCall packetRefusal numberRefusal consistent seenConsistent pendingConsistent agreedConsistent limitsRule delayRule packetAfter seenAfter pendingAfter causeAfter firstCause order outOfOrder gapReached firstMissing congestion numberOf wordsOf bit firstClear runBelow writeAnswer writeRefusal written rangesKept largestWhere frame rangesBelow ackNumbers gapsFrom encodeAll encode form firstFrom
+unfolding linesOf recordCall readEvent eventCall writeCall line decimal placesOf placesFrom opened packetCall packetRefusal numberRefusal consistent seenConsistent pendingConsistent agreedConsistent limitsRule delayRule packetAfter seenAfter pendingAfter causeAfter firstCause order outOfOrder gapReached firstMissing congestion numberOf wordsOf bit firstClear runBelow writeAnswer writeRefusal afterWrite rangesKept largestWhere frame rangesBelow ackNumbers gapsFrom encodeAll encode form firstFrom
 seven-lines = refl

@@ -16,9 +16,9 @@ use Rattle.receiver.specs.declared.Verdict.the-variants.{Accepted, Stale, Refus
 use Rattle.seen.specs.Numbers.{small}
 use Rattle.seen.specs.Received.{floor, received}
 use Rattle.receiver.specs.Record.{delayRule, consistent}
-use Rattle.receiver.specs.Packet.{packetRefusal, packetAfter, packetCall, judged}
+use Rattle.receiver.specs.Packet.{packetRefusal, packetAfter, packetCall, handedBack}
 use Rattle.receiver.specs.Calls.{timerRefusal, timerAfter, timerCall, immediateRefusal, immediateAfter, immediateCall, agreedAfter, thresholdVerdict, thresholdCall, heard}
-use Rattle.receiver.specs.Write.{writeRefusal, written, answered}
+use Rattle.receiver.specs.Write.{writeRefusal, afterWrite, answered}
 use Rattle.receiver.specs.Exactly.{Row, row, first, packetRows, timerRows, immediateRows, thresholdRows, verdictOf}
 use Rattle.receiver.specs.Emits.{writeRows}
 use Rattle.receiver.proofs.Exactly.{unchanged}
@@ -33,18 +33,18 @@ made r (packet n time eliciting marked) = packetAfter r n time eliciting marked
 made r (timer time) = timerAfter r time
 made r immediate = immediateAfter r
 made r (threshold sequence t delay q) = agreedAfter r sequence t delay q
-made r (write time room) = written r
+made r (write time room) = afterWrite r
 
-judged-new : (k : ℕ) (old new : Receiver) → replyOf (judged k old new .result) ≡ accepted → judged k old new .next ≡ new
-judged-new zero old new e = refl
-judged-new (suc k) old new e = let z : _≡_ {A = ℕ} 0 1 = cc in absurd (omega arith)
+handed-new : (k : ℕ) (old new : Receiver) → replyOf (handedBack k old new .result) ≡ accepted → handedBack k old new .next ≡ new
+handed-new zero old new e = refl
+handed-new (suc k) old new e = let z : _≡_ {A = ℕ} 0 1 = cc in absurd (omega arith)
 
 heard-new : (v : Verdict) (old new : Receiver) → replyTo (heard v old new .verdict) ≡ accepted → heard v old new .next ≡ new
 heard-new Accepted old new e = refl
 heard-new Stale old new e = let z : _≡_ {A = ℕ} 0 1 = cc in absurd (omega arith)
 heard-new (Refused k) old new e = let z : _≡_ {A = ℕ} 0 1 = cc in absurd (omega arith)
 
-answered-new : (k : ℕ) (r : Receiver) → replyOf (answered k r [] .result) ≡ accepted → answered k r [] .next ≡ written r
+answered-new : (k : ℕ) (r : Receiver) → replyOf (answered k r [] .result) ≡ accepted → answered k r [] .next ≡ afterWrite r
 answered-new zero r e = refl
 answered-new (suc k) r e = let z : _≡_ {A = ℕ} 0 1 = cc in absurd (omega arith)
 
@@ -64,9 +64,9 @@ step-kept r (write time room) f = answered-old (writeRefusal r time room) r f
 -- an accepted one hands back what it makes
 pub step-made : (r : Receiver) (c : Call) → step r c .reply ≡ accepted → step r c .next ≡ made r c
 unfolding step packetCall timerCall immediateCall thresholdCall
-step-made r (packet n time eliciting marked) e = judged-new (packetRefusal r n time) r (packetAfter r n time eliciting marked) e
-step-made r (timer time) e = judged-new (timerRefusal r time) r (timerAfter r time) e
-step-made r immediate e = judged-new (immediateRefusal r) r (immediateAfter r) e
+step-made r (packet n time eliciting marked) e = handed-new (packetRefusal r n time) r (packetAfter r n time eliciting marked) e
+step-made r (timer time) e = handed-new (timerRefusal r time) r (timerAfter r time) e
+step-made r immediate e = handed-new (immediateRefusal r) r (immediateAfter r) e
 step-made r (threshold s t d q) e = heard-new (thresholdVerdict r s t d q) r (agreedAfter r s t d q) e
 step-made r (write time room) e = answered-new (writeRefusal r time room) r e
 

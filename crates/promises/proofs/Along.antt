@@ -17,9 +17,9 @@ use Rattle.seen.specs.declared.Seen.{Seen}
 use Rattle.receiver.specs.declared.Pending.{Pending}
 use Rattle.receiver.specs.declared.Agreed.{Agreed}
 use Rattle.receiver.specs.declared.Receiver.{Receiver}
-use Rattle.receiver.specs.Packet.{pendingAfter, firstCause, congestion, causeAfter, packetAfter, standing, judged}
+use Rattle.receiver.specs.Packet.{pendingAfter, firstCause, congestion, causeAfter, packetAfter, standing, handedBack}
 use Rattle.receiver.specs.Calls.{opened, usual, openRefusal, openCall, timerDue, agreedAfter}
-use Rattle.receiver.specs.Write.{written}
+use Rattle.receiver.specs.Write.{afterWrite}
 use Rattle.promises.specs.Sequence.{Call, packet, timer, immediate, threshold, write, Calls, none, _then_, Reply, accepted, stale, refused, after, replied, opening}
 use Rattle.promises.specs.Accepted.{Packet, Frame, packetOf, frameOf, joined, acceptedOf, packets, since, before, frames}
 use Rattle.promises.specs.Told.{largest, elicitingOf, arrivalOf, firstArrival, lastMark, largestSequence, valuesOf, inForce, seenOf, leftArrival, pendingOf, tell}
@@ -97,7 +97,7 @@ module _ (o : Receiver) (cs : Calls) (cause : ℕ) where
         limits = o .limits;
         acknowledged = largest (before cs);
         highest = largest (elicitingOf (packets cs));
-        marked = marked;
+        ce = pick marked 1 0;
         cause = cause;
       }) (seen-told (packetOf n time false marked) (packets cs) (m .window))
 
@@ -112,7 +112,7 @@ module _ (o : Receiver) (cs : Calls) (cause : ℕ) where
         limits = o .limits;
         acknowledged = largest (before cs);
         highest = max (largest (elicitingOf (packets cs))) (n + 1);
-        marked = marked;
+        ce = pick marked 1 0;
         cause = standing cause (firstCause (known o cs) n marked s p);
       }) (seen-told (packetOf n time true marked) (packets cs) (m .window)) (pending-told cs n time marked)
 
@@ -129,7 +129,7 @@ unfolding seenOf packets since before frames leftArrival pendingOf due
 immediate-told o cs = refl
 
 write-told : (o : Receiver) (cs : Calls) (time : Micros) (room : ℕ) → made (whole o cs) (write time room) ≡ whole o (cs then write time room)
-unfolding seenOf packets since before frames leftArrival pendingOf due written elicitingOf largest firstArrival
+unfolding seenOf packets since before frames leftArrival pendingOf due afterWrite elicitingOf largest firstArrival
 write-told o cs time room = refl
 
 threshold-told : (o : Receiver) (cs : Calls) (s t : ℕ) (d : Micros) (q : ℕ) → largestSequence (frames cs) ≤ s
@@ -143,7 +143,7 @@ threshold-told o cs s t d q h =
       limits = o .limits;
       acknowledged = largest (before cs);
       highest = largest (elicitingOf (packets cs));
-      marked = lastMark (packets cs);
+      ce = pick (lastMark (packets cs)) 1 0;
       cause = due o cs;
     }) (sym (above-others (o .agreed) (frameOf s t d q) (frames cs) h))
 
@@ -193,7 +193,7 @@ starts : (t q : ℕ) (m : Millis) (u : Micros) → Start (opening t q m u)
 unfolding openCall
 starts t q m u = go (openRefusal t q m u)
   where
-    go : (k : ℕ) → Start (judged k usual (opened t q m u) .next)
+    go : (k : ℕ) → Start (handedBack k usual (opened t q m u) .next)
     go zero = opened-starts t q m u
     go (suc k) = opened-starts 1 1 (record { 0 = 25 }) (record { 0 = 1000 })
 

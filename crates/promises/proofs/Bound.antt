@@ -13,11 +13,11 @@ use Rattle.wire.specs.Bytes.{pick}
 use Rattle.receiver.specs.declared.Millis.{Millis}
 use Rattle.seen.specs.declared.Micros.{Micros}
 use Rattle.receiver.specs.declared.Receiver.{Receiver}
-use Rattle.receiver.specs.Packet.{standing, judged}
+use Rattle.receiver.specs.Packet.{startsCongestion, standing, handedBack}
 use Rattle.receiver.specs.Calls.{opened, usual, openRefusal, openCall, timerDue}
 use Rattle.promises.specs.Sequence.{Call, packet, timer, immediate, threshold, write, Calls, none, _then_, Reply, accepted, stale, refused, after, replied, opening}
 use Rattle.promises.specs.Accepted.{Packet, packetOf, frameOf, joined, acceptedOf, packets, since, before, frames}
-use Rattle.promises.specs.Told.{largest, elicitingOf, among, lastMark, startsCongestion, largestSequence, inForce, pendingOf}
+use Rattle.promises.specs.Told.{largest, elicitingOf, among, lastMark, largestSequence, inForce, pendingOf}
 use Rattle.promises.specs.Order.{orderOf}
 use Rattle.promises.specs.Due.{known, due}
 use Rattle.promises.specs.Passed.{oneIf}
@@ -199,6 +199,6 @@ pub written-at-most : WrittenAtMost
 unfolding openCall
 written-at-most t q maximum minimum cs d = bounded (all-hold t q maximum minimum (openingT t q maximum minimum) (go (openRefusal t q maximum minimum)) cs d)
   where
-    go : (k : ℕ) → Holds (judged k usual (opened t q maximum minimum) .next) (pick (eqb (judged k usual (opened t q maximum minimum) .result) 0) t 1) none
+    go : (k : ℕ) → Holds (handedBack k usual (opened t q maximum minimum) .next) (pick (eqb (handedBack k usual (opened t q maximum minimum) .result) 0) t 1) none
     go zero = opened-holds t q maximum minimum
     go (suc k) = rw (one-more k) (opened-holds 1 1 (record { 0 = 25 }) (record { 0 = 1000 }))

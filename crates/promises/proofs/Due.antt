@@ -2,7 +2,7 @@
 -- Assumes nothing.
 use Prim.Native.Nat.{ℕ, _+_}
 use mathlib.Core.Path.{_≡_, refl, ap, ap₂, _∙_}
-use mathlib.Core.Bool.{Bool, true, not, _&&_, _||_}
+use mathlib.Core.Bool.{Bool, true, false, not, _&&_}
 use mathlib.Core.List.{List, [], _∷_}
 use native.Mathlib.Nat.{le-max-right}
 use native.Mathlib.Omega.{arith}
@@ -12,20 +12,25 @@ use Rattle.wire.specs.Bytes.{pick}
 use Rattle.seen.specs.declared.Micros.{Micros}
 use Rattle.receiver.specs.declared.Agreed.{Agreed}
 use Rattle.receiver.specs.declared.Receiver.{Receiver}
-use Rattle.receiver.specs.Packet.{firstCause, congestion}
+use Rattle.receiver.specs.Packet.{startsCongestion, firstCause, congestion}
 use Rattle.promises.specs.Sequence.{packet, Calls, _then_, opening}
 use Rattle.promises.specs.Accepted.{Packet, acceptedOf, packets, since, before, frames}
-use Rattle.promises.specs.Told.{largest, elicitingOf, lastMark, startsCongestion, inForce, seenOf, pendingOf}
+use Rattle.promises.specs.Told.{largest, elicitingOf, lastMark, inForce, seenOf, pendingOf}
 use Rattle.promises.specs.Due.{known, ofPacket, inNumbers, Due}
 use Rattle.promises.specs.Bound.{StartsAsRead}
 use Rattle.promises.proofs.Order.{in-numbers}
 use Rattle.promises.proofs.Along.{agrees, cause-is}
 
+-- a mark that was stored as 1 or 0 is read back
+mark-kept : (b : Bool) → not (eqb (pick b 1 0) 0) ≡ b
+mark-kept true = refl
+mark-kept false = refl
+
 -- where there is no packet the last one had no mark
-no-packet : (marked : Bool) (ps : List Packet) → (marked && (eqb (largest ps) 0 || not (lastMark ps))) ≡ startsCongestion marked (lastMark ps)
+no-packet : (marked : Bool) (ps : List Packet) → startsCongestion marked (not (eqb (largest ps) 0) && not (eqb (pick (lastMark ps) 1 0) 0)) ≡ startsCongestion marked (lastMark ps)
 unfolding largest lastMark
 no-packet marked [] = refl
-no-packet marked (p ∷ ps) = rw (ne-eqb (largest (p ∷ ps)) 0 (λ z. omega (arith, le-max-right (largest ps) (p .number + 1))))
+no-packet marked (p ∷ ps) = rw (ne-eqb (largest (p ∷ ps)) 0 (λ z. omega (arith, le-max-right (largest ps) (p .number + 1)))) (ap (startsCongestion marked) (mark-kept (p .marked)))
 
 congestion-told : (opened : Receiver) (cs : Calls) (marked : Bool) → congestion (known opened cs) marked ≡ startsCongestion marked (lastMark (packets cs))
 unfolding congestion seenOf

@@ -130,7 +130,7 @@ plain-kept r n time marked k m =
     }
 
 eliciting-kept : (r : Receiver) (n : ℕ) (time : Micros) (marked : Bool) → Consistent r → PacketMeets (r .seen) n time
-    → Consistent (elicitingAfter r (plainAfter r n time marked) n time)
+    → Consistent (elicitingAfter r (plainAfter r n time marked) n time marked)
 unfolding pendingAfter causeAfter
 eliciting-kept r n time marked k m =
     let q = plain-kept r n time marked k m in

@@ -14,7 +14,7 @@ use Rattle.seen.specs.declared.Micros.{Micros}
 use Rattle.seen.specs.Numbers.{small}
 use Rattle.receiver.specs.Record.{limitsRule, consistent}
 use Rattle.receiver.specs.Consistent.{Consistent}
-use Rattle.receiver.specs.Packet.{judged}
+use Rattle.receiver.specs.Packet.{handedBack}
 use Rattle.receiver.specs.Calls.{opened, usual, openRefusal, openCall}
 use Rattle.receiver.proofs.Clauses.{consistent-exactly}
 use Rattle.promises.specs.Sequence.{opening}
@@ -69,6 +69,6 @@ pub opening-kept : (t q : ℕ) (m : Millis) (u : Micros) → consistent (opening
 unfolding openCall
 opening-kept t q m u = consistent-exactly (opening t q m u) .1 (go (openRefusal t q m u) refl)
   where
-    go : (k : ℕ) → openRefusal t q m u ≡ k → Consistent (judged k usual (opened t q m u) .next)
+    go : (k : ℕ) → openRefusal t q m u ≡ k → Consistent (handedBack k usual (opened t q m u) .next)
     go zero e = open-kept t q m u e
     go (suc k) e = usual-kept

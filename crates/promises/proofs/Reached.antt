@@ -10,7 +10,7 @@ use Rattle.receiver.specs.Record.{limitsRule, delayRule, pendingConsistent, agr
 use Rattle.receiver.specs.Packet.{packetRefusal, pendingAfter, outOfOrder, gapReached, order, congestion, firstCause, causeAfter, packetAfter, packetCall}
 use Rattle.receiver.specs.Calls.{opened, openRefusal, openCall, immediateRefusal, immediateCall, timerDue, timerRefusal, timerCall, agreedAfter, thresholdVerdict, thresholdCall}
 use Rattle.seen.specs.Ack.{rangesBelow, frame}
-use Rattle.receiver.specs.Write.{writeRefusal, written}
+use Rattle.receiver.specs.Write.{writeRefusal, afterWrite}
 use Rattle.promises.specs.Sequence.{step, inOrder, after}
 use Rattle.promises.specs.Accepted.{acceptedOf, packets, frames}
 use Rattle.promises.specs.Told.{largest, elicitingOf, among, lastMark}
@@ -21,7 +21,7 @@ use Rattle.promises.specs.Order.{Apart}
 use Rattle.promises.specs.Reached.{eachWritten, Reached}
 
 pub reached : Reached
-unfolding firstFrom form encode encodeAll gapsFrom ackNumbers numberOf wordsOf bit firstClear runBelow limitsRule delayRule seenConsistent pendingConsistent agreedConsistent consistent numberRefusal packetRefusal seenAfter pendingAfter firstMissing outOfOrder gapReached order congestion firstCause causeAfter packetAfter packetCall opened openRefusal openCall immediateRefusal immediateCall timerDue timerRefusal timerCall agreedAfter thresholdVerdict thresholdCall rangesBelow frame writeRefusal written step inOrder after acceptedOf packets frames largest elicitingOf among lastMark count passed passedOver C smallest howMany onlyDue eachWritten
+unfolding firstFrom form encode encodeAll gapsFrom ackNumbers numberOf wordsOf bit firstClear runBelow limitsRule delayRule seenConsistent pendingConsistent agreedConsistent consistent numberRefusal packetRefusal seenAfter pendingAfter firstMissing outOfOrder gapReached order congestion firstCause causeAfter packetAfter packetCall opened openRefusal openCall immediateRefusal immediateCall timerDue timerRefusal timerCall agreedAfter thresholdVerdict thresholdCall rangesBelow frame writeRefusal afterWrite step inOrder after acceptedOf packets frames largest elicitingOf among lastMark count passed passedOver C smallest howMany onlyDue eachWritten
 reached =
     record {
       manyWrites = record { due = refl; written = refl; most = refl };
@@ -32,5 +32,5 @@ reached =
     }
 
 pub two-apart : Apart
-unfolding firstFrom form encode encodeAll gapsFrom ackNumbers numberOf wordsOf bit firstClear runBelow limitsRule seenConsistent pendingConsistent agreedConsistent consistent numberRefusal packetRefusal seenAfter pendingAfter firstMissing outOfOrder gapReached order congestion firstCause causeAfter packetAfter packetCall opened openRefusal openCall rangesBelow frame writeRefusal written step after delayRule
+unfolding firstFrom form encode encodeAll gapsFrom ackNumbers numberOf wordsOf bit firstClear runBelow limitsRule seenConsistent pendingConsistent agreedConsistent consistent numberRefusal packetRefusal seenAfter pendingAfter firstMissing outOfOrder gapReached order congestion firstCause causeAfter packetAfter packetCall opened openRefusal openCall rangesBelow frame writeRefusal afterWrite step after delayRule
 two-apart = record { unacknowledged = refl; highest = refl }

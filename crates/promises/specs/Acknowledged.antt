@@ -10,7 +10,7 @@ use Rattle.frames.specs.Ack.{ackNumbers, readAck}
 use Rattle.frames.specs.declared.Ack.the-variants.{Frame}
 use Rattle.receiver.specs.declared.Millis.{Millis}
 use Rattle.seen.specs.declared.Micros.{Micros}
-use Rattle.seen.specs.Received.{floor, floorOf, floorOf}
+use Rattle.seen.specs.Received.{floorOf}
 use Rattle.seen.specs.Ack.{ackDelay}
 use Rattle.receiver.specs.Write.{writeAnswer, writeBytes}
 use Rattle.promises.specs.Sequence.{write, Calls, accepted, after, replied, opening}

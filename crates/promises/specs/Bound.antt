@@ -7,10 +7,10 @@ use Rattle.wire.specs.Bytes.{pick}
 use Rattle.receiver.specs.declared.Millis.{Millis}
 use Rattle.seen.specs.declared.Micros.{Micros}
 use Rattle.receiver.specs.declared.Receiver.{Receiver}
-use Rattle.receiver.specs.Packet.{congestion}
+use Rattle.receiver.specs.Packet.{startsCongestion, congestion}
 use Rattle.promises.specs.Sequence.{Calls, none, _then_, Reply, accepted, stale, refused, after, replied, opening}
 use Rattle.promises.specs.Accepted.{acceptedOf, packets}
-use Rattle.promises.specs.Told.{lastMark, startsCongestion}
+use Rattle.promises.specs.Told.{lastMark}
 use Rattle.promises.specs.Counted.{E, S, T, F, C, I, D, W, isWrite, openingT}
 
 -- ---- the premise

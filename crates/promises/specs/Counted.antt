@@ -8,9 +8,10 @@ use Rattle.wire.specs.Bytes.{pick}
 use Rattle.receiver.specs.declared.Millis.{Millis}
 use Rattle.seen.specs.declared.Micros.{Micros}
 use Rattle.receiver.specs.Calls.{openCall}
+use Rattle.receiver.specs.Packet.{startsCongestion}
 use Rattle.promises.specs.Sequence.{Call, packet, timer, immediate, threshold, write, Calls, none, _then_}
 use Rattle.promises.specs.Accepted.{Frame, packets, frames}
-use Rattle.promises.specs.Told.{elicitingOf, lastMark, startsCongestion}
+use Rattle.promises.specs.Told.{elicitingOf, lastMark}
 use Rattle.promises.specs.Passed.{oneIf, passedOver}
 
 -- ---- of the packets

@@ -7,11 +7,11 @@ use Rattle.wire.specs.Bytes.{pick}
 use Rattle.receiver.specs.declared.Millis.{Millis}
 use Rattle.seen.specs.declared.Micros.{Micros}
 use Rattle.receiver.specs.declared.Receiver.{Receiver}
-use Rattle.receiver.specs.Packet.{standing, firstCause}
+use Rattle.receiver.specs.Packet.{startsCongestion, standing, firstCause}
 use Rattle.receiver.specs.Calls.{timerDue}
 use Rattle.promises.specs.Sequence.{packet, timer, immediate, threshold, write, Calls, none, _then_, after, opening}
 use Rattle.promises.specs.Accepted.{acceptedOf, packets, since, before, frames}
-use Rattle.promises.specs.Told.{largest, elicitingOf, lastMark, startsCongestion, inForce, seenOf, pendingOf, tell}
+use Rattle.promises.specs.Told.{largest, elicitingOf, lastMark, inForce, seenOf, pendingOf, tell}
 use Rattle.promises.specs.Order.{orderOf}
 
 -- what the calls tell, no cause among it

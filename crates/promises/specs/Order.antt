@@ -20,7 +20,7 @@ unfoldable pub missingFrom : List Packet → ℕ → ℕ → Missing
 missingFrom ps zero n = Nothing
 missingFrom ps (suc k) n = elim (among ps n) [ true ↦ missingFrom ps k (suc n) | false ↦ At n ]
 
--- "missing numbers are sought only in the window": the smallest from `from`, at least the floor, up to below `to`
+-- "missing numbers are sought only in the window", from the floor up to L: the smallest from `from` up to below `to`
 unfoldable pub smallestMissing : List Packet → ℕ → ℕ → Missing
 smallestMissing ps from to = missingFrom ps (min to (largest ps) - max from (floorOf (largest ps))) (max from (floorOf (largest ps)))
 

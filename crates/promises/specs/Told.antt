@@ -2,12 +2,12 @@
 -- Each quantity is read from the lists of accepted packets and frames; what may be absent is an end, one past the number, and 0 for none.
 use Prim.Native.Nat.{ℕ, zero, suc, _+_, _^_, _≤_, _<_, min, max}
 use mathlib.Core.Path.{_≡_}
-use mathlib.Core.Bool.{Bool, false, not, _&&_, _||_}
+use mathlib.Core.Bool.{Bool, false, _&&_, _||_}
 use mathlib.Core.List.{List, [], _∷_}
 use lib.Dec.{leb, ltb, eqb}
 use lib.ListN.{length}
 use Rattle.wire.specs.Bytes.{pick}
-use Rattle.window.specs.Window.{windowOf, withBit}
+use Rattle.window.specs.Window.{places, windowOf, withBit}
 use Rattle.receiver.specs.declared.Millis.{Millis}
 use Rattle.seen.specs.declared.Micros.{Micros}
 use Rattle.seen.specs.declared.Seen.{Seen}
@@ -51,15 +51,11 @@ unfoldable pub lastMark : List Packet → Bool
 lastMark [] = false
 lastMark (p ∷ ps) = p .marked
 
--- "4, congestion: this packet has CE and the previously accepted packet, of either kind, had not, or there was none": `before` is the mark of that one
-abbrev pub startsCongestion : Bool → Bool → Bool
-startsCongestion ce before = ce && not before
-
 -- ---- the window of "the last 1,024 numbers"
 
 -- whether a place stands for a number, from 0 up, that is among the packets
 unfoldable pub isMarked : List Packet → ℕ → Bool
-isMarked ps place = leb 1024 (place + largest ps) && among ps (numberAt (largest ps) place)
+isMarked ps place = leb places (place + largest ps) && among ps (numberAt (largest ps) place)
 
 -- the number with exactly those of the first k places marked for which the test holds
 unfoldable pub marks : (ℕ → Bool) → ℕ → ℕ
@@ -86,7 +82,7 @@ inForce opened (f ∷ fs) = pick (ltb (f .sequence) (largestSequence fs)) (inFor
 
 -- L with its arrival time, and the window
 unfoldable pub seenOf : Calls → Seen
-seenOf cs = record { window = windowOf (marks (isMarked (packets cs)) 1024); end = largest (packets cs); arrived = arrivalOf (packets cs) }
+seenOf cs = record { window = windowOf (marks (isMarked (packets cs)) places); end = largest (packets cs); arrived = arrivalOf (packets cs) }
 
 -- the first arrival as the last written ACK left it: it means nothing until an ack-eliciting packet comes
 unfoldable pub leftArrival : Calls → Micros
@@ -117,7 +113,7 @@ tell opened cs cause =
       limits = opened .limits;
       acknowledged = largest (before cs);
       highest = largest (elicitingOf (packets cs));
-      marked = lastMark (packets cs);
+      ce = pick (lastMark (packets cs)) 1 0;
       cause = cause;
     }
 

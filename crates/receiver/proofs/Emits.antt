@@ -19,7 +19,7 @@ use Rattle.receiver.specs.declared.Receiver.{Receiver}
 use Rattle.receiver.specs.Record.{restConsistent, consistent}
 use Rattle.receiver.specs.Consistent.{Consistent}
 use Rattle.receiver.specs.Exactly.{first}
-use Rattle.receiver.specs.Write.{writeRefusal, written, emitted, answered, writeAnswer, writeBytes}
+use Rattle.receiver.specs.Write.{writeRefusal, afterWrite, emitted, answered, writeAnswer, writeBytes}
 use Rattle.receiver.specs.Emits.{WriteReadBack, writeRows, WriteExactly, WriteLeaves, WriteKeeps}
 use Rattle.receiver.proofs.Clauses.{consistent-exactly}
 use Rattle.receiver.proofs.Written.{same-refusal}
@@ -71,8 +71,8 @@ write-leaves r time xs =
 
 -- ---- a consistent record stays consistent
 
-still : (r : Receiver) → Consistent r → Consistent (written r)
-unfolding written
+still : (r : Receiver) → Consistent r → Consistent (afterWrite r)
+unfolding afterWrite
 still r c =
     record {
       largest = c .largest;
@@ -97,7 +97,7 @@ still r c =
     }
 
 keeps-of : (k : ℕ) (r : Receiver) (bytes : List ℕ) → consistent r ≡ true → consistent (answered k r bytes .next) ≡ true
-keeps-of zero r bytes e = consistent-exactly (written r) .1 (still r (consistent-exactly r .0 e))
+keeps-of zero r bytes e = consistent-exactly (afterWrite r) .1 (still r (consistent-exactly r .0 e))
 keeps-of (suc k) r bytes e = e
 
 pub write-keeps : WriteKeeps

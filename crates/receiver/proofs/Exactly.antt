@@ -17,15 +17,15 @@ use Rattle.receiver.specs.declared.Verdict.the-variants.{Accepted, Stale
 use Rattle.seen.specs.Numbers.{small}
 use Rattle.seen.specs.Received.{floor, received, numberRefusal}
 use Rattle.receiver.specs.Record.{limitsRule, delayRule, consistent}
-use Rattle.receiver.specs.Packet.{packetRefusal, packetAfter, packetCall, judged}
+use Rattle.receiver.specs.Packet.{packetRefusal, packetAfter, packetCall, handedBack}
 use Rattle.receiver.specs.Calls.{opened, usual, openRefusal, openCall, timerRefusal, timerAfter, timerCall, immediateRefusal, immediateAfter, immediateCall, agreedAfter, thresholdVerdict, thresholdCall, heard}
 use Rattle.receiver.specs.Exactly.{Row, row, first, packetRows, Exactly, Unchanged, verdictOf}
 
-result-of : (k : ℕ) (old new : Receiver) → judged k old new .result ≡ k
+result-of : (k : ℕ) (old new : Receiver) → handedBack k old new .result ≡ k
 result-of zero old new = refl
 result-of (suc k) old new = refl
 
-kept : (k : ℕ) (old new : Receiver) → (judged k old new .result ≡ 0 → ⊥) → judged k old new .next ≡ old
+kept : (k : ℕ) (old new : Receiver) → (handedBack k old new .result ≡ 0 → ⊥) → handedBack k old new .next ≡ old
 kept zero old new f = absurd (f refl)
 kept (suc k) old new f = refl
 
@@ -79,7 +79,7 @@ unfolding openCall openRefusal packetCall packetRefusal timerCall timerRefusal i
 exactly =
     record {
       opening = λ t q m u. result-of (openRefusal t q m u) usual (opened t q m u) ∙ next-test (small t && (small q && (small (m .0) && small (u .0)))) 5 _ _ (one-test (limitsRule (record { maximum = m; minimum = u })) 4);
-      packet = λ r n time eliciting marked. result-of (packetRefusal r n time) r (packetAfter r n time eliciting marked) ∙ next-test (consistent r) 1 _ _ (next-test (small n && small (time .0)) 5 _ _ (number-rows (r .seen) n));
+      packet = λ r n time eliciting ce. result-of (packetRefusal r n time) r (packetAfter r n time eliciting ce) ∙ next-test (consistent r) 1 _ _ (next-test (small n && small (time .0)) 5 _ _ (number-rows (r .seen) n));
       timer = λ r time. result-of (timerRefusal r time) r (timerAfter r time) ∙ next-test (consistent r) 1 _ _ (one-test (small (time .0)) 5);
       immediate = λ r. result-of (immediateRefusal r) r (immediateAfter r) ∙ immediate-rows (consistent r) (eqb (r .seen .end) 0);
       threshold = λ r s t d q. verdict-of (thresholdVerdict r s t d q) r (agreedAfter r s t d q) ∙ threshold-rows (consistent r) (small s && (small t && (small (d .0) && small q))) (delayRule (r .limits) d) (ltb s (r .agreed .sequence));
@@ -90,7 +90,7 @@ unfolding openCall packetCall timerCall immediateCall thresholdCall
 unchanged =
     record {
       opening = λ t q m u f. kept (openRefusal t q m u) usual (opened t q m u) f;
-      packet = λ r n time eliciting marked f. kept (packetRefusal r n time) r (packetAfter r n time eliciting marked) f;
+      packet = λ r n time eliciting ce f. kept (packetRefusal r n time) r (packetAfter r n time eliciting ce) f;
       timer = λ r time f. kept (timerRefusal r time) r (timerAfter r time) f;
       immediate = λ r f. kept (immediateRefusal r) r (immediateAfter r) f;
       threshold = λ r s t d q f. heard-kept (thresholdVerdict r s t d q) r (agreedAfter r s t d q) f;

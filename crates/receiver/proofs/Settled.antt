@@ -10,9 +10,19 @@ use Rattle.receiver.specs.Record.{limitsRule, delayRule, pendingConsiste
 use Rattle.receiver.specs.Packet.{packetRefusal, pendingAfter, outOfOrder, gapReached, order, congestion, firstCause, causeAfter, packetAfter, packetCall}
 use Rattle.receiver.specs.Calls.{opened}
 use Rattle.seen.specs.Ack.{rangesBelow, frame, largestWhere, rangesKept}
-use Rattle.receiver.specs.Write.{writeRefusal, written, writeAnswer, writeBytes}
+use Rattle.receiver.specs.Write.{writeRefusal, afterWrite, writeAnswer, writeBytes}
 use Rattle.receiver.specs.Settled.{arrived, Frames}
 
 pub frames : Frames
-unfolding arrived opened packetCall packetRefusal numberRefusal consistent seenConsistent pendingConsistent agreedConsistent limitsRule delayRule packetAfter seenAfter pendingAfter causeAfter firstCause order outOfOrder gapReached firstMissing congestion numberOf wordsOf bit firstClear runBelow writeBytes writeAnswer writeRefusal written rangesKept largestWhere frame rangesBelow ackNumbers gapsFrom encodeAll encode form firstFrom
-frames = record { P6 = refl; P7-five = refl; P7-six = refl; P7-four = refl }
+unfolding arrived opened packetCall packetRefusal numberRefusal consistent seenConsistent pendingConsistent agreedConsistent limitsRule delayRule packetAfter seenAfter pendingAfter causeAfter firstCause order outOfOrder gapReached firstMissing congestion numberOf wordsOf bit firstClear runBelow writeBytes writeAnswer writeRefusal afterWrite rangesKept largestWhere frame rangesBelow ackNumbers gapsFrom encodeAll encode form firstFrom
+frames =
+    record {
+      P6 = refl;
+      P6-answer = (refl, refl);
+      P7-five = refl;
+      P7-five-answer = (refl, refl);
+      P7-six = refl;
+      P7-six-answer = (refl, refl);
+      P7-four = refl;
+      P7-four-answer = (refl, refl);
+    }

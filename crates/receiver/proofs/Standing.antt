@@ -5,7 +5,7 @@ use native.Mathlib.Omega.{arith}
 use mathlib.Core.Path.{_≡_, refl, sym, ap, _∙_}
 use Rattle.receiver.specs.declared.Receiver.{Receiver}
 use Rattle.receiver.specs.declared.Answer.{Answer}
-use Rattle.receiver.specs.Packet.{standing, judged}
+use Rattle.receiver.specs.Packet.{standing, handedBack}
 
 -- a standing cause stays
 pub stays : (cause new : ℕ) → (cause ≡ 0 → ⊥) → cause ≡ standing cause new
@@ -23,9 +23,9 @@ same zero = refl
 same (suc k) = refl
 
 -- a refusal hands the record back
-pub refused : (k : ℕ) (old new : Receiver) → (k ≡ 0 → ⊥) → record { result = k; next = old } ≡ judged k old new
+pub refused : (k : ℕ) (old new : Receiver) → (k ≡ 0 → ⊥) → record { result = k; next = old } ≡ handedBack k old new
 refused zero old new f = absurd (f refl)
 refused (suc k) old new f = refl
 
-pub accepted : (k : ℕ) (old new : Receiver) → k ≡ 0 → record { result = 0; next = new } ≡ judged k old new
+pub accepted : (k : ℕ) (old new : Receiver) → k ≡ 0 → record { result = 0; next = new } ≡ handedBack k old new
 accepted k old new e = rw e

@@ -13,7 +13,7 @@ use Rattle.seen.specs.Ack.{ackRefusal, ackFrame, acked, ackAnswer, ackBytes}
 use Rattle.seen.proofs.Tests.{by-test}
 use Rattle.receiver.specs.declared.Receiver.{Receiver}
 use Rattle.receiver.specs.Record.{restConsistent, consistent}
-use Rattle.receiver.specs.Write.{writeRefusal, written, answered, writeAnswer, writeBytes}
+use Rattle.receiver.specs.Write.{writeRefusal, afterWrite, answered, writeAnswer, writeBytes}
 
 module _ (r : Receiver) where
   -- where the rest of the record fails or holds
@@ -30,7 +30,7 @@ module _ (r : Receiver) (bytes : List ℕ) where
   refusal-answered zero f = absurd (f refl)
   refusal-answered (suc k) f = refl
 
-  frame-answered : (k : ℕ) → acked k bytes .result ≡ 0 → record { result = 0; length = acked k bytes .length; next = written r } ≡ answered k r bytes
+  frame-answered : (k : ℕ) → acked k bytes .result ≡ 0 → record { result = 0; length = acked k bytes .length; next = afterWrite r } ≡ answered k r bytes
   frame-answered zero e = refl
   frame-answered (suc k) e = absurd (omega arith)
 
@@ -51,7 +51,7 @@ module _ (r : Receiver) (time : Micros) (xs : List ℕ) where
           let k : ℕ = ackRefusal (r .seen) time (length xs) in
           rw (same-refusal, e) (refusal-answered r (ackFrame (r .seen) time (length xs)) k (λ z. n (ap (λ (x : Acked). x .result) e ∙ z)), f)
 
-      pub wrote-frame : {q : Receiver} → q ≡ written r → a .result ≡ 0 → (record { result = 0; length = a .length; next = q } ≡ writeAnswer r time xs) × (ys ≡ writeBytes r time xs)
+      pub wrote-frame : {q : Receiver} → q ≡ afterWrite r → a .result ≡ 0 → (record { result = 0; length = a .length; next = q } ≡ writeAnswer r time xs) × (ys ≡ writeBytes r time xs)
       unfolding writeAnswer writeBytes ackAnswer ackBytes
       wrote-frame w z =
           let k : ℕ = ackRefusal (r .seen) time (length xs) in

@@ -1,6 +1,6 @@
 -- Opening, timer, threshold frame and IMMEDIATE_ACK.
 use Prim.Native.Nat.{ℕ, zero, suc, _+_, _-_}
-use mathlib.Core.Bool.{Bool, true, false, not, _&&_, _||_}
+use mathlib.Core.Bool.{Bool, _&&_}
 use lib.Dec.{leb, ltb, eqb}
 use Rattle.wire.specs.Bytes.{pick}
 use Rattle.window.specs.Window.{windowOf}
@@ -15,7 +15,7 @@ use Rattle.receiver.specs.declared.Verdict.the-variants.{Accepted, Stale
 use Rattle.receiver.specs.declared.Heard.{Heard}
 use Rattle.seen.specs.Numbers.{small}
 use Rattle.receiver.specs.Record.{microsOf, limitsRule, delayRule, consistent}
-use Rattle.receiver.specs.Packet.{standing, judged}
+use Rattle.receiver.specs.Packet.{standing, handedBack}
 
 -- ---- "Opening takes [T, R], its own maximum delay in milliseconds and its own minimum delay in microseconds"
 
@@ -29,7 +29,7 @@ opened threshold reordering maximum minimum =
       limits = record { maximum = maximum; minimum = minimum };
       acknowledged = 0;
       highest = 0;
-      marked = false;
+      ce = 0;
       cause = 0;
     }
 
@@ -47,7 +47,7 @@ openRefusal threshold reordering maximum minimum =
 -- "a refused opening hands back that record beside its number"
 unfoldable pub openCall : ℕ → ℕ → Millis → Micros → Answer
 openCall threshold reordering maximum minimum =
-    judged (openRefusal threshold reordering maximum minimum) usual (opened threshold reordering maximum minimum)
+    handedBack (openRefusal threshold reordering maximum minimum) usual (opened threshold reordering maximum minimum)
 
 -- ---- the cause alone changes
 
@@ -60,7 +60,7 @@ withCause r cause =
       limits = r .limits;
       acknowledged = r .acknowledged;
       highest = r .highest;
-      marked = r .marked;
+      ce = r .ce;
       cause = cause;
     }
 
@@ -72,7 +72,7 @@ abbrev pub immediateAfter : Receiver → Receiver
 immediateAfter r = withCause r (standing (r .cause) 1)
 
 unfoldable pub immediateCall : Receiver → Answer
-immediateCall r = judged (immediateRefusal r) r (immediateAfter r)
+immediateCall r = handedBack (immediateRefusal r) r (immediateAfter r)
 
 -- "Timer (time) sets cause 5 if none stands, N > 0 and the time since the first unacknowledged arrival is at least the delay in force"; "A clock that went back counts as no time passed"
 unfoldable pub timerDue : Receiver → Micros → Bool
@@ -85,7 +85,7 @@ abbrev pub timerAfter : Receiver → Micros → Receiver
 timerAfter r time = withCause r (standing (r .cause) (pick (timerDue r time) 5 0))
 
 unfoldable pub timerCall : Receiver → Micros → Answer
-timerCall r time = judged (timerRefusal r time) r (timerAfter r time)
+timerCall r time = handedBack (timerRefusal r time) r (timerAfter r time)
 
 -- ---- "Threshold frame"
 
@@ -99,7 +99,7 @@ agreedAfter r sequence threshold delay reordering =
       limits = r .limits;
       acknowledged = r .acknowledged;
       highest = r .highest;
-      marked = r .marked;
+      ce = r .ce;
       cause = r .cause;
     }
 

@@ -1,10 +1,10 @@
 -- "Consistent means", clause by clause: what refusal 1 asks of a record, and nothing else.
-use Prim.Native.Nat.{ℕ, _+_, _-_, _*_, _^_, _≤_, _<_}
+use Prim.Native.Nat.{ℕ, _+_, _-_, _*_, _≤_, _<_}
 use mathlib.Core.Path.{_≡_}
 use mathlib.Core.Bool.{true, false}
 use mathlib.Core.Logic.{_↔_}
 use Rattle.wire.specs.Numbers.{limit}
-use Rattle.window.specs.Window.{valueOf, isSet}
+use Rattle.window.specs.Window.{places, valueOf, isSet}
 use Rattle.receiver.specs.declared.Receiver.{Receiver}
 use Rattle.receiver.specs.Record.{consistent}
 
@@ -17,7 +17,7 @@ pub record Consistent (r : Receiver) : Type 0 where
   pub reordering : r .agreed .reordering ≤ limit
   pub sequence : r .agreed .sequence ≤ limit + 1
   -- "N is at most 2^62"
-  pub count : r .pending .count ≤ 2 ^ 62
+  pub count : r .pending .count ≤ limit + 1
   -- "the delay rule holds", of the own limits and of the delay in force
   pub maximum : r .limits .maximum .0 < 16384
   pub minimum : r .limits .minimum .0 ≤ r .limits .maximum .0 * 1000
@@ -32,8 +32,8 @@ pub record Consistent (r : Receiver) : Type 0 where
   -- "U is absent exactly when N is 0"
   pub absent : (r .pending .end ≡ 0) ↔ (r .pending .count ≡ 0)
   -- "L's own place is marked and none below number 0"; "if nothing was received, no place is marked"
-  pub own : 0 < r .seen .end → isSet (valueOf (r .seen .window)) 1023 ≡ true
-  pub below : (place : ℕ) → place < 1024 - r .seen .end → isSet (valueOf (r .seen .window)) place ≡ false
+  pub own : 0 < r .seen .end → isSet (valueOf (r .seen .window)) (places - 1) ≡ true
+  pub below : (place : ℕ) → place < places - r .seen .end → isSet (valueOf (r .seen .window)) place ≡ false
   -- "if nothing was received, [..] A, H and U are absent and N and the cause are 0": the others follow from the clauses above
   pub nothing : r .seen .end ≡ 0 → r .cause ≡ 0
 

@@ -3,11 +3,12 @@ use Prim.Native.Nat.{ℕ, zero, suc}
 use mathlib.Core.Path.{_≡_}
 use mathlib.Core.Bool.{true, false}
 use mathlib.Core.List.{List, [], _∷_}
+use lib.ListN.{replicate}
 use Rattle.receiver.specs.declared.Receiver.{Receiver}
 use Rattle.receiver.specs.declared.Answer.{Answer}
 use Rattle.receiver.specs.Packet.{packetCall}
 use Rattle.receiver.specs.Calls.{opened}
-use Rattle.receiver.specs.Write.{written}
+use Rattle.receiver.specs.Write.{writeAnswer}
 
 -- an opening with "T large" and the reordering threshold q
 abbrev pub started : ℕ → Receiver
@@ -17,12 +18,16 @@ started q = opened 1000 q (record { 0 = 25 }) (record { 0 = 1000 })
 abbrev pub arrival : Receiver → ℕ → Answer
 arrival r n = packetCall r n (record { 0 = 0 }) true false
 
+-- the record after a write at time 0, in a room of 1,200 bytes
+abbrev pub afterFrame : Receiver → Receiver
+afterFrame r = writeAnswer r (record { 0 = 0 }) (replicate 1200 0) .next
+
 -- the arrivals at which an acknowledgment is due, "written when due"
 unfoldable pub dues : Receiver → List ℕ → List ℕ
 dues r [] = []
 dues r (n ∷ ns) =
     let next = arrival r n .next in
-    elim (next .cause) [ zero ↦ dues next ns | suc cause ↦ n ∷ dues (written next) ns ]
+    elim (next .cause) [ zero ↦ dues next ns | suc cause ↦ n ∷ dues (afterFrame next) ns ]
 
 pub record Arrivals : Type 0 where
   -- "R 3, arrivals 0, 1, 3, 4, 5, 8, 9, 10, T large, written when due: due at 5, 9, 10 only"

@@ -1,8 +1,9 @@
 -- "Packet": refusals 1, 5, then 6 and 7; what an accepted packet raises; the causes count, order and congestion.
-use Prim.Native.Nat.{ℕ, zero, suc, _+_, _-_, _^_, min, max}
+use Prim.Native.Nat.{ℕ, zero, suc, _+_, _-_, _≤_, _<_, min, max}
 use mathlib.Core.Bool.{Bool, true, false, not, _&&_, _||_}
 use lib.Dec.{leb, ltb, eqb}
 use Rattle.wire.specs.Bytes.{pick}
+use Rattle.wire.specs.Numbers.{limit}
 use Rattle.window.specs.declared.Missing.{Missing}
 use Rattle.window.specs.declared.Missing.the-variants.{At, Nothing}
 use Rattle.seen.specs.declared.Micros.{Micros}
@@ -12,6 +13,7 @@ use Rattle.receiver.specs.declared.Receiver.{Receiver}
 use Rattle.receiver.specs.declared.Answer.{Answer}
 use Rattle.seen.specs.Numbers.{small}
 use Rattle.seen.specs.Received.{numberRefusal, seenAfter, firstMissing, isAny}
+use Rattle.seen.specs.Ack.{numberAt}
 use Rattle.receiver.specs.Record.{consistent}
 
 -- ---- refusals
@@ -25,7 +27,7 @@ packetRefusal r n time = pick (consistent r) (pick (small n && small (time .0)) 
 -- "An ack-eliciting one raises N, H and U as needed"; "At 2^62, N stays"
 unfoldable pub pendingAfter : Pending → ℕ → Micros → Pending
 pendingAfter p n time =
-    record { count = min (p .count + 1) (2 ^ 62); end = max (p .end) (n + 1); first = pick (eqb (p .count) 0) time (p .first) }
+    record { count = min (p .count + 1) (limit + 1); end = max (p .end) (n + 1); first = pick (eqb (p .count) 0) time (p .first) }
 
 -- ---- the causes; seen and pending are as the packet leaves them
 
@@ -35,7 +37,7 @@ outOfOrder s n highest = ltb (n + 1) highest || isAny (firstMissing s highest n)
 
 -- U - m >= R for the missing number m at a place, where U's end is `end`
 abbrev pub reaches : Seen → ℕ → ℕ → Missing → Bool
-reaches s reach end (At place) = leb (place + s .end - 1024 + reach) (end - 1)
+reaches s reach end (At place) = leb (numberAt (s .end) place + reach) (end - 1)
 reaches s reach end Nothing = false
 
 -- "R from 2 up: the smallest unreported missing number m has U - m >= R. Unreported missing numbers are those not received, below U, and above A - R"
@@ -48,15 +50,23 @@ order s zero n highest acknowledged end = false
 order s (suc zero) n highest acknowledged end = outOfOrder s n highest
 order s (suc (suc r)) n highest acknowledged end = gapReached s (min (suc (suc r)) 1023) acknowledged end
 
--- "4, congestion: this packet has CE and the previously accepted packet, of either kind, had not, or there was none"
+-- "4, congestion: this packet has CE and the previously accepted packet, of either kind, had not, or there was none";
+-- `before` is that packet's mark, false where there was none
+abbrev pub startsCongestion : Bool → Bool → Bool
+startsCongestion ce before = ce && not before
+
+-- the mark of the packet before, as the record keeps it: CE where the number is not 0
+abbrev pub markBefore : Receiver → Bool
+markBefore r = not (eqb (r .seen .end) 0) && not (eqb (r .ce) 0)
+
 unfoldable pub congestion : Receiver → Bool → Bool
-congestion r marked = marked && (eqb (r .seen .end) 0 || not (r .marked))
+congestion r ce = startsCongestion ce (markBefore r)
 
 -- "the first that holds becomes the cause", 2 being "count: N > T"
 unfoldable pub firstCause : Receiver → ℕ → Bool → Seen → Pending → ℕ
-firstCause r n marked s p =
+firstCause r n ce s p =
     pick (ltb (r .agreed .threshold) (p .count)) 2
-    (pick (order s (r .agreed .reordering) n (r .highest) (r .acknowledged) (p .end)) 3 (pick (congestion r marked) 4 0))
+    (pick (order s (r .agreed .reordering) n (r .highest) (r .acknowledged) (p .end)) 3 (pick (congestion r ce) 4 0))
 
 -- "If no cause stands": a standing one stays
 abbrev pub standing : ℕ → ℕ → ℕ
@@ -64,13 +74,19 @@ standing zero new = new
 standing (suc cause) new = suc cause
 
 unfoldable pub causeAfter : Receiver → ℕ → Bool → Seen → Pending → ℕ
-causeAfter r n marked s p = standing (r .cause) (firstCause r n marked s p)
+causeAfter r n ce s p = standing (r .cause) (firstCause r n ce s p)
+
+-- what they ask of what the packet leaves: U is there, and U and L are in range
+pub record InRange (s : Seen) (end : ℕ) : Type 0 where
+  pub some : 0 < end
+  pub unacknowledged : end ≤ limit + 1
+  pub largest : s .end ≤ limit + 1
 
 -- ---- the call
 
 -- either kind: the window and the CE mark
 abbrev pub plainAfter : Receiver → ℕ → Micros → Bool → Receiver
-plainAfter r n time marked =
+plainAfter r n time ce =
     record {
       seen = seenAfter (r .seen) n time;
       pending = r .pending;
@@ -78,13 +94,13 @@ plainAfter r n time marked =
       limits = r .limits;
       acknowledged = r .acknowledged;
       highest = r .highest;
-      marked = marked;
+      ce = pick ce 1 0;
       cause = r .cause;
     }
 
 -- an ack-eliciting one also N, U, H and the cause; q is the record with its window and mark
-abbrev pub elicitingAfter : Receiver → Receiver → ℕ → Micros → Receiver
-elicitingAfter r q n time =
+abbrev pub elicitingAfter : Receiver → Receiver → ℕ → Micros → Bool → Receiver
+elicitingAfter r q n time ce =
     record {
       seen = q .seen;
       pending = pendingAfter (r .pending) n time;
@@ -92,18 +108,18 @@ elicitingAfter r q n time =
       limits = q .limits;
       acknowledged = q .acknowledged;
       highest = max (r .highest) (n + 1);
-      marked = q .marked;
-      cause = causeAfter r n (q .marked) (q .seen) (pendingAfter (r .pending) n time);
+      ce = q .ce;
+      cause = causeAfter r n ce (q .seen) (pendingAfter (r .pending) n time);
     }
 
 -- "A packet that is not ack-eliciting never sets a cause"
 unfoldable pub packetAfter : Receiver → ℕ → Micros → Bool → Bool → Receiver
-packetAfter r n time eliciting marked = pick eliciting (elicitingAfter r (plainAfter r n time marked) n time) (plainAfter r n time marked)
+packetAfter r n time eliciting ce = pick eliciting (elicitingAfter r (plainAfter r n time ce) n time ce) (plainAfter r n time ce)
 
 -- "A refusal returns its number and the record as it came in"
-abbrev pub judged : ℕ → Receiver → Receiver → Answer
-judged zero old new = record { result = 0; next = new }
-judged (suc refusal) old new = record { result = suc refusal; next = old }
+abbrev pub handedBack : ℕ → Receiver → Receiver → Answer
+handedBack zero old new = record { result = 0; next = new }
+handedBack (suc refusal) old new = record { result = suc refusal; next = old }
 
 unfoldable pub packetCall : Receiver → ℕ → Micros → Bool → Bool → Answer
-packetCall r n time eliciting marked = judged (packetRefusal r n time) r (packetAfter r n time eliciting marked)
+packetCall r n time eliciting ce = handedBack (packetRefusal r n time) r (packetAfter r n time eliciting ce)

@@ -16,8 +16,8 @@ unfoldable pub writeRefusal : Receiver → Micros → ℕ → ℕ
 writeRefusal r time room = pick (consistent r) (refusalAfter1 (r .seen) time room) 1
 
 -- "After it A = L, U is absent, N and cause are 0"
-unfoldable pub written : Receiver → Receiver
-written r =
+unfoldable pub afterWrite : Receiver → Receiver
+afterWrite r =
     record {
       seen = r .seen;
       pending = record { count = 0; end = 0; first = r .pending .first };
@@ -25,7 +25,7 @@ written r =
       limits = r .limits;
       acknowledged = r .seen .end;
       highest = r .highest;
-      marked = r .marked;
+      ce = r .ce;
       cause = 0;
     }
 
@@ -35,7 +35,7 @@ emitted r time room = ackFrame (r .seen) time room
 
 -- "A refusal returns its number and the record as it came in"
 abbrev pub answered : ℕ → Receiver → List ℕ → Wrote
-answered zero r bytes = record { result = 0; length = length bytes; next = written r }
+answered zero r bytes = record { result = 0; length = length bytes; next = afterWrite r }
 answered (suc refusal) r bytes = record { result = suc refusal; length = 0; next = r }
 
 -- the answer

@@ -1,11 +1,11 @@
 // Opening, timer, threshold frame and IMMEDIATE_ACK.
 ghost use mathlib.Core.Path.{_≡_};
 ghost use Prim.Native.Nat.{_<_};
-ghost use mathlib.Core.Bool.{true};
-ghost use Rattle.receiver.specs.Record.{microsOf};
+ghost use mathlib.Core.Bool.{_&&_};
+ghost use Rattle.seen.specs.Numbers.{small};
 ghost use Rattle.receiver.specs.Packet.{standing};
 ghost use Rattle.receiver.specs.Calls.{opened, usual, openCall, timerDue, timerCall, immediateCall, heard, thresholdCall};
-ghost use Rattle.receiver.specs.declared.Verdict.the-variants.{Stale};
+ghost use Rattle.receiver.specs.declared.Verdict.the-variants.{Stale, Refused};
 use crate::Agreed;
 use crate::Answer;
 use crate::Heard;
@@ -29,7 +29,33 @@ fn standing(cause: u64, new: u64) -> u64
     }
 }
 
+// Whether four numbers obey 5.
+fn all_small(a: u64, b: u64, c: u64, d: u64) -> bool
+    ensures { λ r. ⌜ r ≡ (small a && (small b && (small c && small d))) ⌝ }
+{
+    if !numbers::is_small(a) {
+        return false;
+    }
+    if !numbers::is_small(b) {
+        return false;
+    }
+    if !numbers::is_small(c) {
+        return false;
+    }
+    numbers::is_small(d)
+}
+
 impl Heard {
+    // A refusal's number and the record as it came.
+    fn refused(refusal: u64, kept: Receiver) -> Heard
+        ensures { λ r. ⌜ r ≡ heard (Refused refusal) kept kept ⌝ }
+    {
+        Heard {
+            verdict: Verdict::Refused(refusal),
+            next: kept,
+        }
+    }
+
     // A stale frame changes nothing: its values are in no part of the record.
     fn stale(kept: Receiver) -> Heard
         ensures { λ r. ⌜ r ≡ heard Stale kept kept ⌝ }
@@ -69,7 +95,7 @@ impl Receiver {
             limits: Limits { maximum, minimum },
             acknowledged: 0,
             highest: 0,
-            marked: false,
+            ce: 0,
             cause: 0,
         }
     }
@@ -86,16 +112,7 @@ impl Receiver {
     pub fn open(threshold: u64, reordering: u64, maximum: Millis, minimum: Micros) -> Answer
         ensures { λ r. ⌜ r ≡ openCall threshold reordering maximum minimum ⌝ }
     {
-        if !numbers::is_small(threshold) {
-            return Receiver::refused_opening(5);
-        }
-        if !numbers::is_small(reordering) {
-            return Receiver::refused_opening(5);
-        }
-        if !numbers::is_small(maximum.0) {
-            return Receiver::refused_opening(5);
-        }
-        if !numbers::is_small(minimum.0) {
+        if !all_small(threshold, reordering, maximum.0, minimum.0) {
             return Receiver::refused_opening(5);
         }
         let limits = Limits { maximum, minimum };
@@ -111,17 +128,11 @@ impl Receiver {
         ensures { λ r. ⌜ r ≡ immediateCall self ⌝ }
     {
         if !self.consistent() {
-            return Answer {
-                result: 1,
-                next: self,
-            };
+            return Answer::refused(1, self);
         }
         let seen = self.seen;
         if seen.end == 0 {
-            return Answer {
-                result: 8,
-                next: self,
-            };
+            return Answer::refused(8, self);
         }
         let mut next = self;
         next.cause = standing(self.cause, 1);
@@ -145,16 +156,10 @@ impl Receiver {
         ensures { λ r. ⌜ r ≡ timerCall self time ⌝ }
     {
         if !self.consistent() {
-            return Answer {
-                result: 1,
-                next: self,
-            };
+            return Answer::refused(1, self);
         }
         if !numbers::is_small(time.0) {
-            return Answer {
-                result: 5,
-                next: self,
-            };
+            return Answer::refused(5, self);
         }
         let mut next = self;
         if self.timer_due(time) {
@@ -168,54 +173,28 @@ impl Receiver {
         ensures { λ r. ⌜ r ≡ thresholdCall self sequence threshold delay reordering ⌝ }
     {
         if !self.consistent() {
-            return Heard {
-                verdict: Verdict::Refused(1),
-                next: self,
-            };
+            return Heard::refused(1, self);
         }
-        if !numbers::is_small(sequence) {
-            return Heard {
-                verdict: Verdict::Refused(5),
-                next: self,
-            };
-        }
-        if !numbers::is_small(threshold) {
-            return Heard {
-                verdict: Verdict::Refused(5),
-                next: self,
-            };
-        }
-        if !numbers::is_small(delay.0) {
-            return Heard {
-                verdict: Verdict::Refused(5),
-                next: self,
-            };
-        }
-        if !numbers::is_small(reordering) {
-            return Heard {
-                verdict: Verdict::Refused(5),
-                next: self,
-            };
+        if !all_small(sequence, threshold, delay.0, reordering) {
+            return Heard::refused(5, self);
         }
         let limits = self.limits;
         if !limits.allow(delay) {
-            return Heard {
-                verdict: Verdict::Refused(4),
-                next: self,
-            };
+            return Heard::refused(4, self);
         }
-        let agreed = Agreed {
-            threshold,
-            reordering,
-            delay,
-            sequence: sequence + 1,
-        };
-        let mut next = self;
-        next.agreed = agreed;
         let before = self.agreed;
         if sequence < before.sequence {
             return Heard::stale(self);
         }
+        let end = sequence + 1;
+        let agreed = Agreed {
+            threshold,
+            reordering,
+            delay,
+            sequence: end,
+        };
+        let mut next = self;
+        next.agreed = agreed;
         Heard {
             verdict: Verdict::Accepted,
             next,

@@ -1,7 +1,9 @@
 // Why an acknowledgment is due: the lines of the packet rule, count, order and congestion.
 ghost use mathlib.Core.Path.{_≡_};
-ghost use Prim.Native.Nat.{_<_, _≤_, _^_};
-ghost use Rattle.receiver.specs.Packet.{outOfOrder, gapReached, order, congestion, firstCause, causeAfter};
+ghost use Prim.Native.Nat.{_<_, _≤_};
+ghost use Rattle.wire.specs.Numbers.{limit};
+ghost use Rattle.window.specs.Window.{places};
+ghost use Rattle.receiver.specs.Packet.{InRange, outOfOrder, gapReached, order, congestion, firstCause, causeAfter};
 use crate::Pending;
 use crate::Receiver;
 use seen::Seen;
@@ -10,7 +12,7 @@ use window::Missing;
 
 // R = 1 (RFC 9000 13.2.1): below the earlier H, or above it with a number between missing.
 fn out_of_order(seen: Seen, number: u64, highest: u64) -> bool
-    requires { ⌜ number < 2 ^ 62 ⌝ }
+    requires { ⌜ number ≤ limit ⌝ }
     ensures { λ r. ⌜ r ≡ outOfOrder seen number highest ⌝ }
 {
     if number <= highest {
@@ -24,12 +26,12 @@ fn out_of_order(seen: Seen, number: u64, highest: u64) -> bool
 
 // R from 2 up: the smallest unreported missing number m has U - m >= R.
 fn gap_reached(seen: Seen, reach: u64, acknowledged: u64, end: u64) -> bool
-    requires { ⌜ (reach < 1024) × (end ≤ 2 ^ 62) × (0 < end) × (seen .end ≤ 2 ^ 62) ⌝ }
+    requires { ⌜ (reach < places) × InRange seen end ⌝ }
     ensures { λ r. ⌜ r ≡ gapReached seen reach acknowledged end ⌝ }
 {
     let from = numbers::minus_or_zero(acknowledged, reach);
     match seen.first_missing(from, end - 1) {
-        Missing::At(place) => place + seen.end + reach <= end + 1023,
+        Missing::At(place) => place + seen.end + reach <= end + window::LAST,
         Missing::Nothing => false,
     }
 }
@@ -43,7 +45,7 @@ fn order(
     acknowledged: u64,
     end: u64,
 ) -> bool
-    requires { ⌜ (number < 2 ^ 62) × (end ≤ 2 ^ 62) × (0 < end) × (seen .end ≤ 2 ^ 62) ⌝ }
+    requires { ⌜ (number ≤ limit) × InRange seen end ⌝ }
     ensures { λ r. ⌜ r ≡ order seen reordering number highest acknowledged end ⌝ }
 {
     match reordering {
@@ -56,23 +58,23 @@ fn order(
 
 impl Receiver {
     // Cause 4: this packet has CE and the one accepted before it had not, or there was none.
-    fn congestion(self, marked: bool) -> bool
-        ensures { λ r. ⌜ r ≡ congestion self marked ⌝ }
+    fn congestion(self, ce: bool) -> bool
+        ensures { λ r. ⌜ r ≡ congestion self ce ⌝ }
     {
-        if !marked {
+        if !ce {
             return false;
         }
         let seen = self.seen;
         if seen.end == 0 {
             return true;
         }
-        !self.marked
+        self.ce == 0
     }
 
     // The first line that holds for an ack-eliciting packet; seen and pending are as it leaves them.
-    fn first_cause(self, number: u64, marked: bool, seen: Seen, pending: Pending) -> u64
-        requires { ⌜ (number < 2 ^ 62) × (pending .end ≤ 2 ^ 62) × (0 < pending .end) × (seen .end ≤ 2 ^ 62) ⌝ }
-        ensures { λ r. ⌜ r ≡ firstCause self number marked seen pending ⌝ }
+    fn first_cause(self, number: u64, ce: bool, seen: Seen, pending: Pending) -> u64
+        requires { ⌜ (number ≤ limit) × InRange seen (pending .end) ⌝ }
+        ensures { λ r. ⌜ r ≡ firstCause self number ce seen pending ⌝ }
     {
         let agreed = self.agreed;
         if agreed.threshold < pending.count {
@@ -88,20 +90,20 @@ impl Receiver {
         ) {
             return 3;
         }
-        if self.congestion(marked) {
+        if self.congestion(ce) {
             return 4;
         }
         0
     }
 
     // A cause, once set, stays.
-    pub(crate) fn cause_after(self, number: u64, marked: bool, seen: Seen, pending: Pending) -> u64
-        requires { ⌜ (number < 2 ^ 62) × (pending .end ≤ 2 ^ 62) × (0 < pending .end) × (seen .end ≤ 2 ^ 62) ⌝ }
-        ensures { λ r. ⌜ r ≡ causeAfter self number marked seen pending ⌝ }
+    pub(crate) fn cause_after(self, number: u64, ce: bool, seen: Seen, pending: Pending) -> u64
+        requires { ⌜ (number ≤ limit) × InRange seen (pending .end) ⌝ }
+        ensures { λ r. ⌜ r ≡ causeAfter self number ce seen pending ⌝ }
     {
         let cause = self.cause;
         match cause {
-            0 => self.first_cause(number, marked, seen, pending),
+            0 => self.first_cause(number, ce, seen, pending),
             _ => cause,
         }
     }

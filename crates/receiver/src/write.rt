@@ -1,6 +1,6 @@
 // The write call: the ACK frame of what was received, and nothing is left to acknowledge.
 ghost use mathlib.Core.Path.{_≡_};
-ghost use Rattle.receiver.specs.Write.{written, writeAnswer, writeBytes};
+ghost use Rattle.receiver.specs.Write.{afterWrite, writeAnswer, writeBytes};
 use crate::Pending;
 use crate::Receiver;
 use crate::Wrote;
@@ -21,8 +21,8 @@ impl Wrote {
 
 impl Receiver {
     // The record after a written ACK: A = L, U is absent, N and cause are 0.
-    fn written(self) -> Receiver
-        ensures { λ r. ⌜ r ≡ written self ⌝ }
+    fn after_write(self) -> Receiver
+        ensures { λ r. ⌜ r ≡ afterWrite self ⌝ }
     {
         let seen = self.seen;
         let before = self.pending;
@@ -51,7 +51,7 @@ impl Receiver {
         if acked.result != 0 {
             return Wrote::refused(acked.result, self);
         }
-        let next = self.written();
+        let next = self.after_write();
         Wrote {
             result: 0,
             length: acked.length,

@@ -2,15 +2,12 @@
 -- Assumes nothing.
 use Prim.Native.Nat.{ℕ, _+_, _-_, _*_, _/_, _%_, _≤_, min}
 use mathlib.Core.Path.{_≡_, refl, sym, ap, _∙_, subst}
-use mathlib.Core.Bool.{Bool, true, false}
 use mathlib.Core.List.{List, [], _∷_, _++_, append-nil}
 use native.Mathlib.Nat.{min-eq-left, zero-add}
 use native.Mathlib.Omega.{arith}
-use borrow.Author.Tests.{le-leb, le-ltb, eq-eqb, ne-eqb, leb-true, eqb-false}
-use lib.Dec.{leb}
+use borrow.Author.Tests.{le-leb, le-ltb, eq-eqb, ne-eqb}
 use lib.ListN.{length, getD, take, drop, length-append}
 use lib.Seq.{take-all, take-at, drop-at, drop-append-seam}
-use Rattle.wire.specs.Bytes.{pick}
 use Rattle.wire.specs.Numbers.{limit, encodeAll}
 use Rattle.wire.specs.Standing.{Stand}
 use Rattle.wire.proofs.Small.{all-small}
@@ -29,6 +26,7 @@ use Rattle.report.specs.EachWay.{ReadsBack, WriteRead, Keeps, WriteKeeps
 use Rattle.report.specs.declared.Header.{Header}
 use Rattle.report.specs.declared.Written.{Written}
 use Rattle.report.specs.declared.Written.the-variants.{Done}
+use Rattle.report.proofs.Places.{metrics-small}
 use Rattle.report.proofs.Sent.{length-pairs, count-last, metrics-there, header-sent}
 use Rattle.report.proofs.Following.{fault-at, fault-last, headed-whole}
 use Rattle.report.proofs.Planning.{Accepted, plan-accepted, kept-given, kept-limit, kept-longest, fits-room, numbers-small, head-size, records-size}
@@ -37,12 +35,10 @@ use Rattle.report.proofs.Planning.{Accepted, plan-accepted, kept-given,
 
 module _ (h : Header) (e : firstFault (numbersOf h) ≡ 0) where
   pub metrics-few : h .metrics ≤ mostMetrics
-  unfolding numbersOf judge
-  metrics-few = leb-true (h .metrics) mostMetrics (go (leb (h .metrics) mostMetrics) (fault-at [] (h .timestamp ∷ h .interval ∷ h .total ∷ h .received ∷ h .late ∷ h .lost ∷ storedOf (h .average) ∷ []) (h .metrics) (pairs (min (h .metrics) mostMetrics) 0 (h .kinds) (h .values)) e))
-    where
-      go : (b : Bool) → _≡_ {A = ℕ} (pick b 0 10) 0 → b ≡ true
-      go true e = refl
-      go false e = absurd (eqb-false 10 0 refl e)
+  unfolding numbersOf
+  metrics-few =
+      let seven : List ℕ = h .timestamp ∷ h .interval ∷ h .total ∷ h .received ∷ h .late ∷ h .lost ∷ storedOf (h .average) ∷ [] in
+      metrics-small seven (h .metrics) (fault-at [] seven (h .metrics) (pairs (min (h .metrics) mostMetrics) 0 (h .kinds) (h .values)) e) refl
 
   length-numbers : length (numbersOf h) ≡ fixedNumbers + 2 * h .metrics
   unfolding numbersOf

@@ -2,18 +2,16 @@
 -- Assumes nothing.
 use Prim.Native.Nat.{ℕ, zero, suc, _+_, _-_, _*_, _/_, _≤_, _<_}
 use mathlib.Core.Path.{_≡_, refl, sym, ap, _∙_, subst}
-use mathlib.Core.Bool.{Bool, true, false}
-use mathlib.Core.Logic.{inr}
+use mathlib.Core.Bool.{true}
 use mathlib.Core.List.{List, [], _∷_, _++_}
 use native.Mathlib.Nat.{zero-add, min-eq-left}
 use native.Mathlib.Omega.{arith}
-use borrow.Author.Tests.{lt-ltb, leb-true, eqb-false}
-use lib.Dec.{leb}
+use borrow.Author.Tests.{lt-ltb}
 use lib.ListN.{length, getD, take, drop, length-append, length-drop, length-take, drop-of-length-le, take-append-drop}
 use lib.Seq.{drop-cons, split-at, length-take-le, take-all}
-use Rattle.wire.specs.Bytes.{pick, Octets}
+use Rattle.wire.specs.Bytes.{Octets}
 use Rattle.wire.specs.Numbers.{widthOf, encodeAll, allSmall}
-use Rattle.wire.proofs.Lengths.{split, width-pos}
+use Rattle.wire.proofs.Lengths.{width-pos}
 use Rattle.wire.proofs.Small.{all-small, small-append}
 use Rattle.wire.proofs.Standing.{stand-small, stand-shortest}
 use Rattle.entries.specs.Limits.{recordSize, mostEntries}
@@ -23,17 +21,17 @@ use Rattle.entries.proofs.Exactly.{fault-judged}
 use Rattle.entries.proofs.Largest.{records-fit}
 use Rattle.report.specs.Layout.{atMetrics, fixedNumbers, atType, atValue}
 use Rattle.report.specs.Limits.{mostMetrics}
-use Rattle.report.specs.Header.{judge, firstFault, wantedOf, countOf, each, metricAt, headerOf, pairs, numbersOf}
+use Rattle.report.specs.Header.{firstFault, wantedOf, countOf, each, metricAt, headerOf, pairs, numbersOf}
 use Rattle.report.specs.Reader.{Whole, partOf, reportReading, entriesIn, entriesOf}
 use Rattle.report.specs.Writer.{reportSize, writeAnswer, writeBytes}
-use Rattle.report.specs.Exactly.{Headed, EntriesBroken}
+use Rattle.report.specs.Exactly.{Headed}
 use Rattle.report.specs.EachWay.{ReadWrite}
 use Rattle.report.specs.declared.Written.the-variants.{Done}
 use Rattle.report.proofs.Signed.{stored-average}
 use Rattle.report.proofs.Whole.{Judged, judged-whole}
 use Rattle.report.proofs.Planning.{length-last, plan-done}
 use Rattle.report.proofs.Following.{End, header, numbers-end, fault-at, fault-start}
-use Rattle.report.proofs.Places.{place-judged}
+use Rattle.report.proofs.Places.{metrics-small, entries-small}
 use Rattle.report.proofs.Back.{report-part}
 
 -- ---- the numbers of a whole header are those of the header that they make
@@ -48,15 +46,9 @@ module _ (ns : List ℕ) (g : firstFault ns ≡ 0) (w : length ns ≡ wantedOf n
   m = getD ns atMetrics 0
 
   few : m ≤ mostMetrics
-  unfolding judge
   few =
       let l : length (take atMetrics ns) ≡ atMetrics = length-take-le atMetrics ns (omega arith) in
-      let j : judge (take atMetrics ns) m ≡ 0 = fault-at [] (take atMetrics ns) m (drop fixedNumbers ns) (rw (← split-at ns atMetrics 0 (omega arith)) g) in
-      leb-true m mostMetrics (go (leb m mostMetrics) (rw l at j))
-    where
-      go : (b : Bool) → _≡_ {A = ℕ} (pick b 0 10) 0 → b ≡ true
-      go true e = refl
-      go false e = absurd (eqb-false 10 0 refl e)
+      metrics-small (take atMetrics ns) m (fault-at [] (take atMetrics ns) m (drop fixedNumbers ns) (rw (← split-at ns atMetrics 0 (omega arith)) g)) l
 
   long : length ns ≡ fixedNumbers + 2 * m + 1
   long = w ∙ rw (min-eq-left few) refl
@@ -119,18 +111,12 @@ module _ (ns : List ℕ) (g : firstFault ns ≡ 0) (w : length ns ≡ wantedOf n
   unfolding numbersOf headerOf
   metrics-again = refl
 
-  broken : mostEntries < countOf ns → EntriesBroken us (countOf ns)
-  broken h = record {
-    place = record { behind = omega (arith, one-less, long); even = λ e. omega (arith, one-less, long) };
-    last = omega (arith, one-less, long, metrics-again);
-    above = h;
-  }
-
   -- the entry count is within its limit
   pub count-few : countOf ns ≤ mostEntries
   count-few =
-      split (countOf ns) mostEntries (λ h. h)
-      (λ h. absurd (eqb-false 10 0 refl (sym (place-judged us (countOf ns) .ten .1 (inr (inr (broken h)))) ∙ fault-at [] us (countOf ns) [] (rw numbers-again g))))
+      entries-small us (countOf ns) (fault-at [] us (countOf ns) [] (rw numbers-again g))
+      (record { behind = omega (arith, one-less, long); even = λ e. omega (arith, one-less, long) })
+      (omega (arith, one-less, long, metrics-again))
 
 -- ---- the writer on an accepted report
 

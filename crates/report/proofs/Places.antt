@@ -1,6 +1,6 @@
 -- What breaks the rule of a place: the tests of the definitions are the rows' conditions.
 -- Assumes nothing.
-use Prim.Native.Nat.{ℕ, _+_, _-_, _/_, _%_}
+use Prim.Native.Nat.{ℕ, _+_, _-_, _/_, _%_, _≤_}
 use mathlib.Core.Path.{_≡_, refl, sym, _∙_, subst}
 use mathlib.Core.Logic.{_⊎_, inl, inr, ⊎-elim}
 use mathlib.Core.Bool.{Bool, true, false}
@@ -10,6 +10,7 @@ use borrow.Author.Tests.{lt-leb, le-ltb, eq-eqb, ne-eqb, leb-false, ltb-false, e
 use lib.Dec.{leb, eqb, ltb}
 use lib.ListN.{length, getD}
 use Rattle.wire.specs.Bytes.{pick}
+use Rattle.wire.proofs.Lengths.{split}
 use Rattle.entries.specs.Limits.{mostEntries}
 use Rattle.report.specs.Layout.{atTotal, atReceived, atLate, atLost, atMetrics, fixedNumbers}
 use Rattle.report.specs.Limits.{mostMetrics}
@@ -81,3 +82,12 @@ place-judged ns v = record {
   ten = (λ e. subst (Row (table ns v)) e (in-row ns v), ⊎-elim (to-count ns v) (⊎-elim (to-type ns v) (to-entries ns v)));
   others = one-of (table ns v) (judge ns v) (in-row ns v);
 }
+
+-- ---- what a number that brought no refusal obeys
+
+module _ (ns : List ℕ) (v : ℕ) (z : judge ns v ≡ 0) where
+  pub metrics-small : length ns ≡ atMetrics → v ≤ mostMetrics
+  metrics-small l = split v mostMetrics (λ h. h) (λ h. absurd (eqb-false 10 0 refl (sym (to-count ns v (record { place = l; above = h })) ∙ z)))
+
+  pub entries-small : Later ns → (length ns - fixedNumbers) / 2 ≡ getD ns atMetrics 0 → v ≤ mostEntries
+  entries-small l e = split v mostEntries (λ h. h) (λ h. absurd (eqb-false 10 0 refl (sym (to-entries ns v (record { place = l; last = e; above = h })) ∙ z)))

@@ -7,3 +7,4 @@ pub mod Writer
 pub mod Refusals
 pub mod Exactly
 pub mod EachWay
+pub mod Examples

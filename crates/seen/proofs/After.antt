@@ -1,6 +1,6 @@
 -- What an accepted number leaves: L's end is the larger of the old one and the number's.
 -- Assumes nothing.
-use Prim.Native.Nat.{ℕ, _+_, _^_, _≤_, _<_, max}
+use Prim.Native.Nat.{ℕ, _+_, _≤_, _<_, max}
 use mathlib.Core.Path.{_≡_}
 use native.Mathlib.Nat.{max-eq-left, max-eq-right}
 use native.Mathlib.Omega.{arith}
@@ -29,5 +29,5 @@ module _ (s : Seen) (n : ℕ) (time : Micros) where
       omega-le h = omega arith
 
   -- a number that obeys 5 is accepted
-  pub with-small : n < 2 ^ 62 → pick (small n) (seenAfter s n time) s ≡ seenAfter s n time
-  with-small h = rw (le-leb n limit (omega arith))
+  pub with-small : n ≤ limit → pick (small n) (seenAfter s n time) s ≡ seenAfter s n time
+  with-small h = rw (le-leb n limit h)

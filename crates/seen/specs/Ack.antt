@@ -6,7 +6,7 @@ use lib.Dec.{leb, eqb}
 use lib.ListN.{length, take}
 use Rattle.wire.specs.Bytes.{pick, splice}
 use Rattle.wire.specs.Numbers.{encodeAll}
-use Rattle.window.specs.Window.{valueOf, runBelow}
+use Rattle.window.specs.Window.{places, valueOf, runBelow}
 use Rattle.frames.specs.Ack.{ackNumbers}
 use Rattle.seen.specs.declared.Micros.{Micros}
 use Rattle.seen.specs.declared.Seen.{Seen}
@@ -18,7 +18,7 @@ use Rattle.seen.specs.Received.{seenConsistent}
 
 -- the number that a place of the window stands for, where L's end is `end`
 abbrev pub numberAt : ℕ → ℕ → ℕ
-numberAt end place = place + end - 1024
+numberAt end place = place + end - places
 
 -- the first n ranges below a place: what is missing there is passed over, then comes the run of received numbers, then what is below it
 unfoldable pub rangesBelow : ℕ → Seen → ℕ → List ℕ
@@ -28,9 +28,9 @@ rangesBelow (suc n) s place =
     let low = top - runBelow true top (valueOf (s .window)) in
     elim top [ zero ↦ [] | suc largest ↦ numberAt (s .end) low ∷ numberAt (s .end) largest ∷ rangesBelow n s low ]
 
--- all of them: the window has 1,024 places, L's is the last
+-- all of them, from L down
 abbrev pub ranges : Seen → List ℕ
-ranges s = rangesBelow 1024 s 1024
+ranges s = rangesBelow places s places
 
 abbrev pub numberOfRanges : Seen → ℕ
 numberOfRanges s = length (ranges s) / 2

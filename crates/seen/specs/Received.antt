@@ -4,7 +4,7 @@ use Prim.Native.Nat.{ℕ, _+_, _-_, _/_, _^_, min, max}
 use mathlib.Core.Bool.{Bool, true, false, _&&_, _||_}
 use lib.Dec.{leb, ltb, eqb}
 use Rattle.wire.specs.Bytes.{pick}
-use Rattle.window.specs.Window.{valueOf, windowOf, isSet, withBit, noneBelow, firstClear}
+use Rattle.window.specs.Window.{places, valueOf, windowOf, isSet, withBit, noneBelow, firstClear}
 use Rattle.window.specs.declared.Window.{Window}
 use Rattle.window.specs.declared.Missing.{Missing}
 use Rattle.window.specs.declared.Missing.the-variants.{At, Nothing}
@@ -16,14 +16,14 @@ use Rattle.seen.specs.Numbers.{small, smallEnd}
 
 -- "the floor, the larger of 0 and L - 1,023", where L's end is `end`
 abbrev pub floorOf : ℕ → ℕ
-floorOf end = end - 1024
+floorOf end = end - places
 
 abbrev pub floor : Seen → ℕ
 floor s = floorOf (s .end)
 
--- the place of a number of the window, where L's end is `end`: L's own is 1023
+-- the place of a number of the window, where L's end is `end`: L's own is the last
 abbrev pub placeOf : ℕ → ℕ → ℕ
-placeOf end n = n + 1024 - end
+placeOf end n = n + places - end
 
 -- whether a number of the window was received
 abbrev pub received : Seen → ℕ → Bool
@@ -36,8 +36,11 @@ abbrev pub numbersObey : Seen → Bool
 numbersObey s = smallEnd (s .end) && small (s .arrived .0)
 
 -- "L's own place is marked and none below number 0"; "if nothing was received, no place is marked"
+abbrev pub marksFit : ℕ → ℕ → Bool
+marksFit w end = noneBelow (places - end) w && (eqb end 0 || isSet w (places - 1))
+
 abbrev pub marksConsistent : Seen → Bool
-marksConsistent s = noneBelow (1024 - s .end) (valueOf (s .window)) && (eqb (s .end) 0 || isSet (valueOf (s .window)) 1023)
+marksConsistent s = marksFit (valueOf (s .window)) (s .end)
 
 unfoldable pub seenConsistent : Seen → Bool
 seenConsistent s = numbersObey s && marksConsistent s
@@ -60,7 +63,7 @@ unfoldable pub seenAfter : Seen → ℕ → Micros → Seen
 seenAfter s n time =
     pick (ltb n (s .end))
     (record { window = markAt (s .window) (placeOf (s .end) n); end = s .end; arrived = s .arrived })
-    (record { window = markAt (moveOn (s .window) (n + 1 - s .end)) 1023; end = n + 1; arrived = time })
+    (record { window = markAt (moveOn (s .window) (n + 1 - s .end)) (places - 1); end = n + 1; arrived = time })
 
 -- ---- "missing numbers are sought only in the window as it stands after this packet"
 

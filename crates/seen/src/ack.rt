@@ -5,8 +5,8 @@ ghost use Prim.Native.Nat.{_-_, _^_, _≤_, _<_};
 ghost use lib.ListN.{length};
 ghost use Rattle.wire.specs.Numbers.{limit};
 ghost use Rattle.wire.specs.Bytes.{splice};
-ghost use Rattle.window.specs.Window.{valueOf, lentValue, runBelow};
-ghost use Rattle.seen.specs.Received.{seenConsistent};
+ghost use Rattle.window.specs.Window.{places, valueOf, lentValue, runBelow};
+ghost use Rattle.seen.specs.Received.{marksFit, seenConsistent};
 ghost use Rattle.seen.specs.Ack.{numberOfRanges, frame, rangesKept, ackAnswer, ackBytes};
 use crate::Acked;
 use crate::Micros;
@@ -29,28 +29,52 @@ fn range_below(words: &[u64; 16], place: u64) -> Range
     Range { missing, size }
 }
 
+// Whether the marks of a window's words fit the end of L, told by the runs that a frame is made of.
+fn runs_fit(words: &[u64; 16], end: u64) -> bool
+    ensures { λ r. ⌜ r ≡ marksFit (lentValue (now (words .entry))) end ⌝ }
+{
+    let below = numbers::minus_or_zero(window::PLACES, end);
+    if window::run_below(words, below, false) != below {
+        return false;
+    }
+    if end == 0 {
+        return true;
+    }
+    window::run_below(words, window::PLACES, false) == 0
+}
+
 impl Seen {
+    // Whether what was received is consistent, told by runs: the words are lent, and not copied as `consistent` would have to.
+    fn consistent_by_runs(self) -> bool
+        ensures { λ r. ⌜ r ≡ seenConsistent self ⌝ }
+    {
+        if !self.numbers_obey() {
+            return false;
+        }
+        runs_fit(&self.window.words, self.end)
+    }
+
     // How many numbers the newest range has: it ends with L, whose place is the last.
     fn first_size(self) -> u64
-        ensures { λ r. ⌜ r ≡ runBelow true 1024 (valueOf (self .window)) ⌝ }
+        ensures { λ r. ⌜ r ≡ runBelow true places (valueOf (self .window)) ⌝ }
     {
-        window::run_below(&self.window.words, 1024, true)
+        window::run_below(&self.window.words, window::PLACES, true)
     }
 
     // How many of the newest ranges fit the room: 0 where not even the first does, which has `first` numbers.
     fn ranges_kept(self, first: u64, delay: u64, room: usize) -> u64
-        requires { ⌜ (seenConsistent self ≡ true) × (0 < self .end) × (delay ≤ limit) × (room < 2 ^ 63) × (first ≡ runBelow true 1024 (valueOf (self .window))) ⌝ }
+        requires { ⌜ (seenConsistent self ≡ true) × (0 < self .end) × (delay ≤ limit) × (room < 2 ^ 63) × (first ≡ runBelow true places (valueOf (self .window))) ⌝ }
         ensures { λ r. ⌜ r ≡ rangesKept self delay room ⌝ }
     {
         // No place below that of number 0 is marked.
-        let none_below = numbers::minus_or_zero(1024, self.end);
+        let none_below = numbers::minus_or_zero(window::PLACES, self.end);
         // The bytes of the frame so far, without its range count.
         let mut bytes = 1 + wire::width(self.end - 1) + wire::width(delay) + wire::width(first - 1);
         if room < bytes + 1 {
             return 0;
         }
         let mut count: u64 = 1;
-        let mut low = 1024 - first;
+        let mut low = window::PLACES - first;
         while none_below < low {
             let range = range_below(&self.window.words, low);
             if range.size == 0 {
@@ -69,7 +93,7 @@ impl Seen {
 
     // Writes the frame with the count newest ranges, and answers its length.
     fn store(self, first: u64, delay: u64, count: u64, buf: &mut [u8]) -> usize
-        requires { ⌜ (seenConsistent self ≡ true) × (0 < self .end) × (delay ≤ limit) × (0 < count) × (count ≤ numberOfRanges self) × (length (frame self delay count) ≤ length (now buf)) × (first ≡ runBelow true 1024 (valueOf (self .window))) ⌝ }
+        requires { ⌜ (seenConsistent self ≡ true) × (0 < self .end) × (delay ≤ limit) × (0 < count) × (count ≤ numberOfRanges self) × (length (frame self delay count) ≤ length (now buf)) × (first ≡ runBelow true places (valueOf (self .window))) ⌝ }
         ensures { λ r. ⌜ (r ≡ length (frame self delay count)) × (now (buf .exit) ≡ splice (now (buf .entry)) 0 (frame self delay count)) ⌝ }
     {
         // Type 02, largest, delay, range count, first range (RFC 9000 19.3).
@@ -78,7 +102,7 @@ impl Seen {
             return 0;
         };
         let mut at = next;
-        let mut low = 1024 - first;
+        let mut low = window::PLACES - first;
         let mut left = count - 1;
         while 0 < left {
             let range = range_below(&self.window.words, low);
@@ -98,7 +122,7 @@ impl Seen {
     pub fn write_ack(self, time: Micros, buf: &mut [u8]) -> Acked
         ensures { λ r. ⌜ (r ≡ ackAnswer self time (now (buf .entry))) × (now (buf .exit) ≡ ackBytes self time (now (buf .entry))) ⌝ }
     {
-        if !self.consistent() {
+        if !self.consistent_by_runs() {
             return Acked::refused(1);
         }
         if !numbers::is_small(time.0) {

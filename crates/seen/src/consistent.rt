@@ -5,7 +5,7 @@ use crate::Seen;
 use crate::numbers;
 
 impl Seen {
-    fn numbers_obey(self) -> bool
+    pub(crate) fn numbers_obey(self) -> bool
         ensures { λ r. ⌜ r ≡ numbersObey self ⌝ }
     {
         if !numbers::is_small_end(self.end) {
@@ -19,13 +19,17 @@ impl Seen {
     {
         let end = self.end;
         let window = self.window;
-        if !window.none_below(numbers::minus_or_zero(1024, end)) {
+        if end == 0 {
+            return window.none_below(window::PLACES);
+        }
+        // From 1,024 numbers on every place stands for one, and the words are not looked through.
+        if window::PLACES <= end {
+            return window.is_marked(window::LAST);
+        }
+        if !window.none_below(window::PLACES - end) {
             return false;
         }
-        if end == 0 {
-            return true;
-        }
-        window.is_marked(1023)
+        window.is_marked(window::LAST)
     }
 
     // Whether what was received is consistent. The window comes last: it costs most.

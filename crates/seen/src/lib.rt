@@ -15,18 +15,18 @@ pub struct Micros(pub u64);
 // What was received. What may be absent is kept as an end: one past the number, and 0 for none.
 #[repr(C)]
 pub struct Seen {
-    // Which of the last 1,024 numbers were received: place 1023 is L, place 1023 - d is L - d.
+    // The window marks which of the last 1,024 numbers were received: place 1023 is L, place 1023 - d is L - d.
     pub window: Window,
-    // The end of the largest received number, L.
+    // This is the end of L, the largest number that was received.
     pub end: u64,
-    // When L arrived.
+    // L arrived at this time.
     pub arrived: Micros,
 }
 
 // What writing an ACK frame answers.
 pub struct Acked {
-    // 0 for written, or the paper's refusal number.
+    // This is 0 where the frame was written, and else the paper's refusal number.
     pub result: u64,
-    // How many bytes the frame takes at the start of the lent buffer, 0 where it was refused.
+    // The frame takes so many bytes at the start of the lent buffer, 0 where it was refused.
     pub length: u64,
 }

@@ -14,7 +14,7 @@ fn place_of(end: u64, number: u64) -> u64
     requires { ⌜ number ≤ end ⌝ }
     ensures { λ r. ⌜ r ≡ placeOf end number ⌝ }
 {
-    numbers::minus_or_zero(1024, end - number)
+    numbers::minus_or_zero(window::PLACES, end - number)
 }
 
 impl Seen {
@@ -22,7 +22,7 @@ impl Seen {
     fn floor(self) -> u64
         ensures { λ r. ⌜ r ≡ floor self ⌝ }
     {
-        numbers::minus_or_zero(self.end, 1024)
+        numbers::minus_or_zero(self.end, window::PLACES)
     }
 
     // 7 below the window, 6 in it and received, 0 for a number that can be accepted.
@@ -63,7 +63,7 @@ impl Seen {
         }
         let end_after = number + 1;
         let moved = window.advanced(end_after - end);
-        let next = moved.mark(1023);
+        let next = moved.mark(window::LAST);
         Seen {
             window: next,
             end: end_after,

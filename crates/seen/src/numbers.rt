@@ -4,7 +4,10 @@ ghost use Prim.Native.Nat.{_+_, _-_, max, min};
 ghost use Rattle.seen.specs.Numbers.{small, smallEnd};
 
 // The largest number and time: 2^62 - 1.
-const LIMIT: u64 = 4611686018427387903;
+const LIMIT: u64 = wire::LARGEST;
+
+// The largest end, one past the largest number, and the most that N counts: 2^62.
+pub const MOST: u64 = LIMIT + 1;
 
 // Whether a number or time obeys 5.
 pub fn is_small(n: u64) -> bool
@@ -17,7 +20,7 @@ pub fn is_small(n: u64) -> bool
 pub fn is_small_end(end: u64) -> bool
     ensures { λ r. ⌜ r ≡ smallEnd end ⌝ }
 {
-    end <= LIMIT + 1
+    end <= MOST
 }
 
 // a less b, and 0 where b is larger.

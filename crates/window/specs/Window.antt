@@ -8,6 +8,10 @@ use Rattle.window.specs.declared.Window.{Window}
 use Rattle.window.specs.declared.Missing.{Missing}
 use Rattle.window.specs.declared.Missing.the-variants.{At, Nothing}
 
+-- How many places a window has.
+abbrev pub places : ℕ
+places = 1024
+
 -- The number W of a window.
 abbrev pub valueOf : Window → ℕ
 valueOf s = numberOf (s .words)

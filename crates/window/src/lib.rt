@@ -4,7 +4,13 @@
 ghost use mathlib.Core.Path.{_≡_};
 ghost use Prim.Native.Nat.{_*_, _/_, _-_, _^_, _<_, _≤_};
 ghost use Rattle.window.specs.Words.{otherThan};
-ghost use Rattle.window.specs.Window.{valueOf, lentValue, windowOf, isSet, withBit, firstClear, runBelow, noneBelow};
+ghost use Rattle.window.specs.Window.{places, valueOf, lentValue, windowOf, isSet, withBit, firstClear, runBelow, noneBelow};
+
+// How many places a window has.
+pub const PLACES: u64 = 1024;
+
+// The last place: L's own.
+pub const LAST: u64 = PLACES - 1;
 
 #[repr(C)]
 pub struct Window {
@@ -27,7 +33,7 @@ fn other_than(marked: bool, word: u64) -> u64
 
 // How many places directly below place n are marked, or, with `marked` false, are not, where n is at most 1,024.
 fn run_within(words: &[u64; 16], n: u64, marked: bool) -> u64
-    requires { ⌜ n ≤ 1024 ⌝ }
+    requires { ⌜ n ≤ places ⌝ }
     ensures { λ r. ⌜ r ≡ runBelow marked n (lentValue (now (words .entry))) ⌝ }
 {
     let mut left = n;
@@ -50,13 +56,13 @@ fn run_within(words: &[u64; 16], n: u64, marked: bool) -> u64
 pub fn run_below(words: &[u64; 16], n: u64, marked: bool) -> u64
     ensures { λ r. ⌜ r ≡ runBelow marked n (lentValue (now (words .entry))) ⌝ }
 {
-    if n <= 1024 {
+    if n <= PLACES {
         return run_within(words, n, marked);
     }
     if marked {
         return 0;
     }
-    n - 1024 + run_within(words, 1024, false)
+    n - PLACES + run_within(words, PLACES, false)
 }
 
 impl Window {
@@ -71,7 +77,7 @@ impl Window {
     pub fn is_marked(self, place: u64) -> bool
         ensures { λ r. ⌜ r ≡ isSet (valueOf self) place ⌝ }
     {
-        if 1024 <= place {
+        if PLACES <= place {
             return false;
         }
         let words = self.words;
@@ -86,7 +92,7 @@ impl Window {
     pub fn mark(mut self, place: u64) -> Self
         ensures { λ r. ⌜ r ≡ windowOf (withBit (valueOf self) place) ⌝ }
     {
-        if 1024 <= place {
+        if PLACES <= place {
             return self;
         }
         let i = (place / 64) as usize;
@@ -133,7 +139,7 @@ impl Window {
     pub fn advanced(self, d: u64) -> Self
         ensures { λ r. ⌜ r ≡ windowOf (valueOf self / 2 ^ d) ⌝ }
     {
-        if 1024 <= d {
+        if PLACES <= d {
             return Window::empty();
         }
         // Most packets come in order: a distance known to the compiler makes the shifts cheap.
@@ -158,7 +164,7 @@ impl Window {
         let words = self.words;
         let mut at = from;
         while at < to {
-            if 1024 <= at {
+            if PLACES <= at {
                 return Missing::At(at);
             }
             let i = (at / 64) as usize;

@@ -1,10 +1,15 @@
 -- `receiver::Receiver::threshold` meets its contract: its tests are the refusals, in their order, and then staleness.
 -- Assumes nothing.
+use mathlib.Core.Path.{_≡_, _∙_}
+use mathlib.Core.Bool.{true, _&&_}
 use native.Mathlib.Omega.{arith}
 use borrow.Author.Tests.{lt-ltb, le-ltb, leb-true}
 use Rattle.wire.specs.Numbers.{limit}
+use Rattle.seen.specs.Numbers.{small}
+use Rattle.receiver.specs.Record.{consistent, delayRule}
 use Rattle.receiver.specs.Calls.{thresholdCall, thresholdVerdict, agreedAfter}
 use Rattle.seen.proofs.Tests.{failed, held}
+use Rattle.seen.proofs.Ranges.{both}
 use borrow.Author.Needs.{needs}
 use Rattle.receiver.proofs.Receiver.threshold.Statement.{statement}
 use Rattle.receiver.proofs.Receiver.threshold.Tie as tie
@@ -12,76 +17,80 @@ use Rattle.receiver.proofs.Receiver.threshold.Tie as tie
 consistent-requires : tie.Need-consistent-requires
 consistent-requires c κs = search needs
 
+refused-requires : tie.Need-refused-requires
+refused-requires c κs = search needs
+
 returns : tie.Need-returns
 unfolding thresholdCall thresholdVerdict
-returns c = rw (failed (c .before .consistent .ensures) (c .if1 .taken))
+returns c = c .refused .ensures ∙ rw (failed (c .before .before .consistent .ensures) (c .before .if1 .taken))
 
-is-small-requires : tie.Need-is-small-requires
-is-small-requires c κs = search needs
+all-small-requires : tie.Need-all-small-requires
+all-small-requires c κs = search needs
+
+refused-requires-2 : tie.Need-refused-requires-2
+refused-requires-2 c κs = search needs
 
 returns-2 : tie.Need-returns-2
 unfolding thresholdCall thresholdVerdict
-returns-2 c = rw (held (c .before .before .before .consistent .ensures) (c .before .before .if1 .left), failed (c .before .is-small .ensures) (c .if2 .taken))
-
-is-small-requires-2 : tie.Need-is-small-requires-2
-is-small-requires-2 c κs = search needs
-
-returns-3 : tie.Need-returns-3
-unfolding thresholdCall thresholdVerdict
-returns-3 c = rw (held (c .before .before .before .before .before .consistent .ensures) (c .before .before .before .before .if1 .left), held (c .before .before .before .is-small .ensures) (c .before .before .if2 .left), failed (c .before .is-small2 .ensures) (c .if3 .taken))
-
-is-small-requires-3 : tie.Need-is-small-requires-3
-is-small-requires-3 c κs = search needs
-
-returns-4 : tie.Need-returns-4
-unfolding thresholdCall thresholdVerdict
-returns-4 c = rw (held (c .before .before .before .before .before .before .before .consistent .ensures) (c .before .before .before .before .before .before .if1 .left), held (c .before .before .before .before .before .is-small .ensures) (c .before .before .before .before .if2 .left), held (c .before .before .before .is-small2 .ensures) (c .before .before .if3 .left), failed (c .before .is-small3 .ensures) (c .if4 .taken))
-
-is-small-requires-4 : tie.Need-is-small-requires-4
-is-small-requires-4 c κs = search needs
-
-returns-5 : tie.Need-returns-5
-unfolding thresholdCall thresholdVerdict
-returns-5 c = rw (held (c .before .before .before .before .before .before .before .before .before .consistent .ensures) (c .before .before .before .before .before .before .before .before .if1 .left), held (c .before .before .before .before .before .before .before .is-small .ensures) (c .before .before .before .before .before .before .if2 .left), held (c .before .before .before .before .before .is-small2 .ensures) (c .before .before .before .before .if3 .left), held (c .before .before .before .is-small3 .ensures) (c .before .before .if4 .left), failed (c .before .is-small4 .ensures) (c .if5 .taken))
+returns-2 c = c .refused2 .ensures ∙ rw (held (c .before .before .before .before .consistent .ensures) (c .before .before .before .if1 .left), failed (c .before .before .all-small .ensures) (c .before .if2 .taken))
 
 allow-requires : tie.Need-allow-requires
 allow-requires c κs = search needs
 
-returns-6 : tie.Need-returns-6
-unfolding thresholdCall thresholdVerdict
-returns-6 c = rw (held (c .before .before .before .before .before .before .before .before .before .before .before .before .consistent .ensures) (c .before .before .before .before .before .before .before .before .before .before .before .if1 .left), held (c .before .before .before .before .before .before .before .before .before .before .is-small .ensures) (c .before .before .before .before .before .before .before .before .before .if2 .left), held (c .before .before .before .before .before .before .before .before .is-small2 .ensures) (c .before .before .before .before .before .before .before .if3 .left), held (c .before .before .before .before .before .before .is-small3 .ensures) (c .before .before .before .before .before .if4 .left), held (c .before .before .before .before .is-small4 .ensures) (c .before .before .before .if5 .left), failed (c .before .allow .ensures) (c .if6 .taken))
+refused-requires-3 : tie.Need-refused-requires-3
+refused-requires-3 c κs = search needs
 
-add-t18 : tie.Need-add-t18
-add-t18 c = omega (arith, leb-true (c .before .before .before .before .before .before .before .before .before .before .before .before .before .args .sequence) limit (held (c .before .before .before .before .before .before .before .before .before .before .is-small .ensures) (c .before .before .before .before .before .before .before .before .before .if2 .left)))
+-- the record is consistent and the four numbers obey 5
+abbrev entry : tie.Else2 → tie.Start
+entry c = c .before .before .before .before
+
+obeys : (c : tie.Else2) → let a = entry c .args in
+    (consistent (a .self) ≡ true) × ((small (a .sequence) && (small (a .threshold) && (small (a .delay .0) && small (a .reordering)))) ≡ true)
+obeys c = (held (c .before .before .before .consistent .ensures) (c .before .before .if1 .left), held (c .before .all-small .ensures) (c .if2 .left))
+
+returns-3 : tie.Need-returns-3
+unfolding thresholdCall thresholdVerdict
+returns-3 c =
+    let k = obeys (c .before .before .before .before) in
+    c .refused3 .ensures ∙ rw (k .0, k .1, failed (c .before .before .allow .ensures) (c .before .if3 .taken))
 
 stale-requires : tie.Need-stale-requires
 stale-requires c κs = search needs
 
-returns-7 : tie.Need-returns-7
+returns-4 : tie.Need-returns-4
 unfolding thresholdCall thresholdVerdict
-returns-7 c = rw (held (c .before .before .before .before .before .before .before .before .before .before .before .before .before .before .before .before .consistent .ensures) (c .before .before .before .before .before .before .before .before .before .before .before .before .before .before .before .if1 .left), held (c .before .before .before .before .before .before .before .before .before .before .before .before .before .before .is-small .ensures) (c .before .before .before .before .before .before .before .before .before .before .before .before .before .if2 .left), held (c .before .before .before .before .before .before .before .before .before .before .before .before .is-small2 .ensures) (c .before .before .before .before .before .before .before .before .before .before .before .if3 .left), held (c .before .before .before .before .before .before .before .before .before .before .is-small3 .ensures) (c .before .before .before .before .before .before .before .before .before .if4 .left), held (c .before .before .before .before .before .before .before .before .is-small4 .ensures) (c .before .before .before .before .before .before .before .if5 .left), held (c .before .before .before .before .before .allow .ensures) (c .before .before .before .before .if6 .left), lt-ltb _ _ (c .before .if7 .taken)) (c .stale .ensures)
+returns-4 c =
+    let e = c .before .before .before .before in
+    let k = obeys (e .before .before .before) in
+    rw (k .0, k .1, held (e .before .allow .ensures) (e .if3 .left), lt-ltb _ _ (c .before .if4 .taken)) (c .stale .ensures)
 
-returns-8 : tie.Need-returns-8
+add-end : tie.Need-add-end
+add-end c =
+    let k = c .before .before .before .before .before .before in
+    let a = entry k .args in
+    omega (arith, leb-true (a .sequence) limit (both (small (a .sequence)) (small (a .threshold) && (small (a .delay .0) && small (a .reordering))) (obeys k .1) .0))
+
+returns-5 : tie.Need-returns-5
 unfolding thresholdCall thresholdVerdict agreedAfter
-returns-8 c = rw (held (c .before .before .before .before .before .before .before .before .before .before .before .before .before .before .before .consistent .ensures) (c .before .before .before .before .before .before .before .before .before .before .before .before .before .before .if1 .left), held (c .before .before .before .before .before .before .before .before .before .before .before .before .before .is-small .ensures) (c .before .before .before .before .before .before .before .before .before .before .before .before .if2 .left), held (c .before .before .before .before .before .before .before .before .before .before .before .is-small2 .ensures) (c .before .before .before .before .before .before .before .before .before .before .if3 .left), held (c .before .before .before .before .before .before .before .before .before .is-small3 .ensures) (c .before .before .before .before .before .before .before .before .if4 .left), held (c .before .before .before .before .before .before .before .is-small4 .ensures) (c .before .before .before .before .before .before .if5 .left), held (c .before .before .before .before .allow .ensures) (c .before .before .before .if6 .left), le-ltb _ _ (c .if7 .left))
+returns-5 c =
+    let e = c .before .before .before in
+    let k = obeys (e .before .before .before) in
+    rw (k .0, k .1, held (e .before .allow .ensures) (e .if3 .left), le-ltb _ _ (c .if4 .left))
 
 pub threshold-spec : {M : Type 1} → statement M
 threshold-spec =
     tie.close
     (tie.spec
     consistent-requires
+    refused-requires
     returns
-    is-small-requires
+    all-small-requires
+    refused-requires-2
     returns-2
-    is-small-requires-2
-    returns-3
-    is-small-requires-3
-    returns-4
-    is-small-requires-4
-    returns-5
     allow-requires
-    returns-6
-    add-t18
+    refused-requires-3
+    returns-3
     stale-requires
-    returns-7
-    returns-8)
+    returns-4
+    add-end
+    returns-5)

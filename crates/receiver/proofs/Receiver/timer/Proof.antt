@@ -1,6 +1,6 @@
 -- `receiver::Receiver::timer` meets its contract: its tests are the refusals and then the rule.
 -- Assumes nothing.
-use mathlib.Core.Path.{sym, ap}
+use mathlib.Core.Path.{_∙_}
 use Rattle.receiver.specs.Calls.{timerCall, timerRefusal, withCause}
 use Rattle.seen.proofs.Tests.{failed, held, told, denied}
 use Rattle.receiver.proofs.Standing.{same}
@@ -11,16 +11,22 @@ use Rattle.receiver.proofs.Receiver.timer.Tie as tie
 consistent-requires : tie.Need-consistent-requires
 consistent-requires c κs = search needs
 
+refused-requires : tie.Need-refused-requires
+refused-requires c κs = search needs
+
 returns : tie.Need-returns
 unfolding timerCall timerRefusal
-returns c = rw (failed (c .before .consistent .ensures) (c .if1 .taken))
+returns c = c .refused .ensures ∙ rw (failed (c .before .before .consistent .ensures) (c .before .if1 .taken))
 
 is-small-requires : tie.Need-is-small-requires
 is-small-requires c κs = search needs
 
+refused-requires-2 : tie.Need-refused-requires-2
+refused-requires-2 c κs = search needs
+
 returns-2 : tie.Need-returns-2
 unfolding timerCall timerRefusal
-returns-2 c = rw (held (c .before .before .before .consistent .ensures) (c .before .before .if1 .left), failed (c .before .is-small .ensures) (c .if2 .taken))
+returns-2 c = c .refused2 .ensures ∙ rw (held (c .before .before .before .before .consistent .ensures) (c .before .before .before .if1 .left), failed (c .before .before .is-small .ensures) (c .before .if2 .taken))
 
 timer-due-requires : tie.Need-timer-due-requires
 timer-due-requires c κs = search needs
@@ -41,8 +47,10 @@ timer-spec =
     tie.close
     (tie.spec
     consistent-requires
+    refused-requires
     returns
     is-small-requires
+    refused-requires-2
     returns-2
     timer-due-requires
     standing-requires

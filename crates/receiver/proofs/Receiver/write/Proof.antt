@@ -38,8 +38,8 @@ returns-2 c =
     let w = wrote-refusal (a .self) (a .time) (a .buf .now) (held (s .before .rest-consistent .ensures) (s .if1 .left)) (k .write-ack .ensures .0) (k .write-ack .ensures .1) (i .if2 .taken) in
     (c .refused2 .ensures ∙ w .0, w .1)
 
-written-requires : tie.Need-written-requires
-written-requires c κs = search needs
+after-write-requires : tie.Need-after-write-requires
+after-write-requires c κs = search needs
 
 same-length-2 : tie.Need-same-length-2
 same-length-2 c = search needs
@@ -50,7 +50,7 @@ returns-3 c =
     let k = i .before .before .before .before in
     let s = k .before .before .before in
     let a = s .before .before .before .args in
-    wrote-frame (a .self) (a .time) (a .buf .now) (held (s .before .rest-consistent .ensures) (s .if1 .left)) (k .write-ack .ensures .0) (k .write-ack .ensures .1) (c .written .ensures) (i .if2 .left)
+    wrote-frame (a .self) (a .time) (a .buf .now) (held (s .before .rest-consistent .ensures) (s .if1 .left)) (k .write-ack .ensures .0) (k .write-ack .ensures .1) (c .after-write .ensures) (i .if2 .left)
 
 pub write-spec : {M : Type 1} → statement M
 write-spec =
@@ -63,6 +63,6 @@ write-spec =
     refused-requires-2
     same-length
     returns-2
-    written-requires
+    after-write-requires
     same-length-2
     returns-3)

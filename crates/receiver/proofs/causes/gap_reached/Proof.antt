@@ -25,12 +25,12 @@ enum-known-place c = search needs
 add-result : tie.Need-add-result
 add-result c =
     let a = c .before .before .before .before .before .before .args in
-    omega (arith, place-below (a .seen) _ _ _ (sym (c .before .before .before .before .first-missing .ensures) ∙ c .before .before .place .given .1), c .before .before .before .before .before .before .pre)
+    omega (arith, place-below (a .seen) _ _ _ (sym (c .before .before .before .before .first-missing .ensures) ∙ c .before .before .place .given .1), c .before .before .before .before .before .before .pre .0, c .before .before .before .before .before .before .pre .1)
 
 add-result-2 : tie.Need-add-result-2
 add-result-2 c =
     let a = c .before .before .before .before .before .before .args in
-    omega (arith, place-below (a .seen) _ _ _ (sym (c .before .before .before .before .first-missing .ensures) ∙ c .before .before .place .given .1), c .before .before .before .before .before .before .pre)
+    omega (arith, place-below (a .seen) _ _ _ (sym (c .before .before .before .before .first-missing .ensures) ∙ c .before .before .place .given .1), c .before .before .before .before .before .before .pre .0, c .before .before .before .before .before .before .pre .1)
 
 add-result-3 : tie.Need-add-result-3
 add-result-3 c = search needs
@@ -41,7 +41,7 @@ enum-told c = search needs
 returns : tie.Need-returns
 returns c =
     let a = c .before .before .before .before .before .before .args in
-    gap-at (a .seen) (a .reach) (a .acknowledged) (a .end) _ (c .before .before .before .before .before .before .pre .2)
+    gap-at (a .seen) (a .reach) (a .acknowledged) (a .end) _ (c .before .before .before .before .before .before .pre .1 .some)
     (sym (c .before .before .place .given .1) ∙ c .before .before .before .before .first-missing .ensures ∙ ap (λ (k : ℕ). firstMissing (a .seen) k (a .end - 1)) (c .before .before .before .before .before .minus-or-zero .ensures))
 
 returns-2 : tie.Need-returns-2
