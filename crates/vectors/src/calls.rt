@@ -91,7 +91,8 @@ pub fn cuts(reader: Reader, s: &[u8]) {
 
 pub fn width(v: u64) {
     show::count(b"width ", v);
-    show::count(b": ", wire::width(v) as u64);
+    show::count(b": by zeros ", wire::width(v) as u64);
+    show::count(b", by table ", wire::width_by_table(v) as u64);
     show::text(b"\n");
 }
 

@@ -1,6 +1,7 @@
 pub mod Bytes
 pub mod Table
 pub mod Lengths
+pub mod Zeros
 pub mod Small
 pub mod Reading
 pub mod Writing

@@ -11,6 +11,8 @@ use Rattle.wire.proofs.numbers.read_number.Reads as read-number
 use Rattle.wire.proofs.numbers.read_number.Kinds as read-number-kinds
 use Rattle.wire.proofs.numbers.width.Reads as width
 use Rattle.wire.proofs.numbers.width.Kinds as width-kinds
+use Rattle.wire.proofs.numbers.width_by_table.Reads as width-by-table
+use Rattle.wire.proofs.numbers.width_by_table.Kinds as width-by-table-kinds
 use Rattle.wire.proofs.fields.read_fixed4.Reads as read-fixed4
 use Rattle.wire.proofs.fields.read_fixed4.Kinds as read-fixed4-kinds
 use Rattle.wire.proofs.fields.read_fixed8.Reads as read-fixed8
@@ -48,6 +50,15 @@ read-number-one κs given x y s t p q = p ∙ sym q
 
 pub width-one : OneAnswer 0 width-kinds.ps width-kinds.r width.Post
 width-one κs given x y s t p q = p ∙ sym q
+
+pub width-by-table-one : OneAnswer 0 width-by-table-kinds.ps width-by-table-kinds.r width-by-table.Post
+width-by-table-one κs given x y s t p q = p ∙ sym q
+
+-- by zeros and by table agree for every number
+pub widths-agree :
+    (κs : Lfts 0) (given : Dens κs width-kinds.ps) (x y : resT width-kinds.r κs .Denot) (s t : AtExit (endedOf 0 width-kinds.ps width-kinds.r) κs)
+    → width.Post κs given x s → width-by-table.Post κs given y t → x ≡ y
+widths-agree κs given x y s t p q = p ∙ sym q
 
 pub read-fixed4-one : OneAnswer 1 read-fixed4-kinds.ps read-fixed4-kinds.r read-fixed4.Post
 read-fixed4-one κs given x y s t p q = p ∙ sym q

@@ -17,6 +17,7 @@ pub use fields::read_fixed8;
 pub use numbers::put_number;
 pub use numbers::read_number;
 pub use numbers::width;
+pub use numbers::width_by_table;
 pub use several::length_of;
 pub use several::put_numbers;
 

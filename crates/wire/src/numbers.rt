@@ -13,20 +13,23 @@ use crate::fields::read_fixed;
 use crate::fields::wide;
 use crate::form_at;
 
-// The first form of the table that holds v.
+// The shortest form that holds v: 1, 2, 4 and 8 bytes hold 6, 14, 30 and 62 bits, since two bits are the code.
+// A number has 64 bits less its leading zeros. Short numbers come first: most are.
 fn shortest(v: u64) -> Fit
     ensures { λ r. ⌜ (r .code ≡ codeOf v) × (r .len ≡ widthOf v) ⌝ }
 {
-    let mut k: usize = 0;
-    while k < 4 {
-        let f = form_at(k);
-        if v <= f.largest {
-            return Fit {
-                code: k,
-                len: f.len,
-            };
-        }
-        k += 1;
+    let bits = 64 - u64::leading_zeros(v);
+    if bits <= 6 {
+        return Fit { code: 0, len: 1 };
+    }
+    if bits <= 14 {
+        return Fit { code: 1, len: 2 };
+    }
+    if bits <= 30 {
+        return Fit { code: 2, len: 4 };
+    }
+    if bits <= 62 {
+        return Fit { code: 3, len: 8 };
     }
     Fit { code: 4, len: 0 }
 }
@@ -37,6 +40,21 @@ pub fn width(v: u64) -> usize
 {
     let f = shortest(v);
     f.len
+}
+
+// The same by the table: the first form whose largest value is not below v. It is for tests, which hold `width` to it.
+pub fn width_by_table(v: u64) -> usize
+    ensures { λ r. ⌜ r ≡ widthOf v ⌝ }
+{
+    let mut k: usize = 0;
+    while k < 4 {
+        let f = form_at(k);
+        if v <= f.largest {
+            return f.len;
+        }
+        k += 1;
+    }
+    0
 }
 
 // Reads the number at at in the form of the code: the field's bits below the code are the value.

@@ -1,70 +1,29 @@
--- `wire::numbers::shortest` meets its contract. The loop's invariant: the first code from k that holds v is the first of all.
+-- `wire::shortest` meets its contract: how many bits the number has says which forms are too short and which holds it.
 -- Assumes nothing.
-use Prim.Native.Nat.{ℕ, suc, _+_, _-_, _≤_, _<_}
-use mathlib.Core.Path.{_≡_, refl, sym, ap, _∙_}
-use borrow.Author.Needs.{needs}
-use borrow.Author.Tests.{le-leb, lt-leb}
-use lib.Dec.{leb}
-use native.Mathlib.Numerals.{add-one}
 use native.Mathlib.Omega.{arith}
-use Rattle.wire.specs.Bytes.{pick}
-use Rattle.wire.specs.Numbers.{firstFrom, codeOf, widthOf, largestOf, lenOf}
-use Rattle.wire.proofs.Lengths.{width-found, width-none}
+use lib.Count.{leading-le}
+use lib.Dec.{lit<}
+use Rattle.wire.proofs.Zeros.{one, two, four, eight, no-form, found, none}
 use Rattle.wire.proofs.numbers.shortest.Statement.{statement}
 use Rattle.wire.proofs.numbers.shortest.Tie as tie
 
-abbrev Inv-loop : tie.InvT-loop
-Inv-loop v k₀ k = (k ≤ 4) × (firstFrom (4 - k) k v ≡ codeOf v)
+sub-bits : tie.Need-sub-bits
+sub-bits c = leading-le 64 _
 
-abbrev μ-loop : tie.MeasureT-loop
-μ-loop v k₀ k = 4 - k
+returns : tie.Need-returns
+returns c = found _ 0 (one _ (c .before .fits .v .fits) (c .if1 .taken)) (lit< tt)
 
-turn : (v k : ℕ) → k < 4 → firstFrom (4 - k) k v ≡ pick (leb v (largestOf k)) k (firstFrom (4 - (k + 1)) (k + 1) v)
-unfolding firstFrom
-turn v k h =
-    let e : 4 - k ≡ suc (4 - (k + 1)) = omega arith in
-    rw (e, add-one)
+returns-2 : tie.Need-returns-2
+returns-2 c = found _ 1 (two _ (c .before .before .fits .v .fits) (c .before .if1 .left) (c .if2 .taken)) (lit< tt)
 
--- the code k is found, and its length with it
-found : (v k len : ℕ) → k ≡ codeOf v → k < 4 → len ≡ lenOf k → (k ≡ codeOf v) × (len ≡ widthOf v)
-found v k len e h l = (e, l ∙ ap lenOf e ∙ sym (width-found v (rw e at h)))
+returns-3 : tie.Need-returns-3
+returns-3 c = found _ 2 (four _ (c .before .before .before .fits .v .fits) (c .before .if2 .left) (c .if3 .taken)) (lit< tt)
 
--- no code is found
-none : (v k : ℕ) → k ≡ 4 → k ≡ codeOf v → (4 ≡ codeOf v) × (0 ≡ widthOf v)
-none v k f e = (sym f ∙ e, sym (width-none v (omega arith)))
+returns-4 : tie.Need-returns-4
+returns-4 c = found _ 3 (eight _ (c .before .before .before .before .fits .v .fits) (c .before .if3 .left) (c .if4 .taken)) (lit< tt)
 
-loop-holds : tie.Need-loop-holds Inv-loop μ-loop
-loop-holds c = search needs
-
-form-at-requires : tie.Need-form-at-requires Inv-loop μ-loop
-form-at-requires c κs = search needs
-
-returns : tie.Need-returns Inv-loop μ-loop
-returns c =
-    let l = c .before .before .before .before .loop in
-    let v = c .before .before .before .before .before .args .v in
-    let h = c .before .before .before .loop-test .taken in
-    found v (l .k) _ (rw (turn v (l .k) h, le-leb v (largestOf (l .k)) (omega arith)) at (l .inv .1)) h (c .before .before .form-at .ensures .0)
-
-add-k : tie.Need-add-k Inv-loop μ-loop
-add-k c = search needs
-
-loop-less : tie.Need-loop-less Inv-loop μ-loop
-loop-less c = search needs
-
-loop-again : tie.Need-loop-again Inv-loop μ-loop
-loop-again c =
-    let l = c .before .before .before .before .loop in
-    let v = c .before .before .before .before .before .args .v in
-    (search needs, rw (turn v (l .k) (c .before .before .before .loop-test .taken), lt-leb v (largestOf (l .k)) (omega arith)) at (l .inv .1))
-
-returns-2 : tie.Need-returns-2 Inv-loop μ-loop
-unfolding firstFrom
-returns-2 c =
-    let e : c .before .loop .k ≡ 4 = omega arith in
-    none _ _ e (e ∙ rw e at (c .before .loop .inv .1))
+returns-5 : tie.Need-returns-5
+returns-5 c = none _ (no-form _ (c .before .before .before .before .fits .v .fits) (c .if4 .left))
 
 pub shortest-spec : {M : Type 1} → statement M
-shortest-spec =
-    tie.close
-    (tie.spec Inv-loop μ-loop loop-holds form-at-requires returns add-k loop-less loop-again returns-2)
+shortest-spec = tie.close (tie.spec sub-bits returns returns-2 returns-3 returns-4 returns-5)
