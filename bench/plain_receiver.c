@@ -95,7 +95,7 @@ static inline uint64_t take_packet(lumbixet_receiver *r, uint64_t number, uint64
     uint64_t refusal = packet_refusal(r, number, time_us);
     if (refusal)
         return refusal;
-    bool begins = marked && (r->end == 0 || r->ce == 0);
+    bool congested = marked && (r->sequence == 0 || r->end == 0 || r->ce == 0);
     uint64_t highest = r->highest;
     if (number < r->end) {
         mark(r->window, place_of(r, number));
@@ -119,7 +119,7 @@ static inline uint64_t take_packet(lumbixet_receiver *r, uint64_t number, uint64
             r->cause = LUMBIXET_COUNT;
         else if (order(r, number, highest))
             r->cause = LUMBIXET_ORDER;
-        else if (begins)
+        else if (congested)
             r->cause = LUMBIXET_CONGESTION;
     }
     return LUMBIXET_ACCEPTED;

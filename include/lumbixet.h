@@ -73,7 +73,7 @@ enum {
     LUMBIXET_IMMEDIATE = 1,  /* the sender asked by IMMEDIATE_ACK */
     LUMBIXET_COUNT = 2,      /* more ack-eliciting packets than the threshold */
     LUMBIXET_ORDER = 3,      /* packets are missing or came out of order */
-    LUMBIXET_CONGESTION = 4, /* a run of CE marks began */
+    LUMBIXET_CONGESTION = 4, /* a packet had the CE mark: before the first accepted ACK_FREQUENCY any, then the first of a run */
     LUMBIXET_TIMER = 5       /* the delay in force has passed */
 };
 

@@ -37,7 +37,7 @@ static inline const char *lumbixet_cause_text(uint64_t cause)
         "the sender asked for it",
         "more packets came than the threshold",
         "packets are missing or came out of order",
-        "a run of congestion marks began",
+        "a packet had a congestion mark",
         "the delay in force has passed",
     };
     return cause < sizeof texts / sizeof texts[0] ? texts[cause] : "unknown";

@@ -113,7 +113,11 @@ fn calls(examples: &mut Examples) {
     examples.check("a marked packet that is not ack-eliciting sets no cause", marked.cause, 0);
     let written = write(two, 100, &mut [0; 9]).2;
     examples.check("an ack-eliciting one that begins a run sets cause 4", packet(written, 2, 100, true, true).1.cause, 4);
-    let second = packet(write(marked, 100, &mut [0; 9]).2, 3, 100, true, true).1;
-    examples.check("one inside a run does not", second.cause, 0);
+    let in_a_run = |record: Record| packet(write(record, 100, &mut [0; 9]).2, 3, 100, true, true).1.cause;
+    examples.check("one inside a run does too before anything was agreed", in_a_run(marked.clone()), 4);
+    let refused = threshold(marked.clone(), 0, 2, 999, 3);
+    examples.check("a refused frame agrees nothing", (refused.0, in_a_run(refused.1)), (4, 4));
+    let agreed = threshold(marked, 0, 2, 25_000, 3).1;
+    examples.check("after the first accepted frame it does not", in_a_run(agreed), 0);
     examples.check("order comes before congestion", packet(received(&[0]), 4, 0, true, true).1.cause, ORDER);
 }

@@ -79,14 +79,17 @@ pub fn packet(record: Record, number: u64, time: u64, eliciting: bool, marked: b
     let judged = judge(&record, &[number, time]).and_then(|()| judge_place(&record, number));
     answer(record, judged, |next| {
         let earlier_highest = next.highest;
-        // "the previously accepted packet, of either kind, had not, or there was none"
+        // "Until the first threshold frame is accepted, every accepted ack-eliciting packet with CE sets cause 4; from then on
+        // the start-of-run rule holds" (document 02, No. 1): "the previously accepted packet, of either kind, had not, or there was none"
+        let nothing_agreed = next.sequence.is_none();
         let earlier_marked = next.largest.is_some() && next.ce != 0;
+        let congested = marked && (nothing_agreed || !earlier_marked);
         mark(next, number, time);
         if eliciting {
             count(next, number, time);
             // "If no cause stands, the first that holds becomes the cause"
             if next.cause == NOT_DUE {
-                next.cause = first_that_holds(next, number, earlier_highest, marked && !earlier_marked);
+                next.cause = first_that_holds(next, number, earlier_highest, congested);
             }
         }
         next.ce = u64::from(marked);
@@ -131,7 +134,7 @@ fn count(record: &mut Record, number: u64, time: u64) {
     record.pending_largest = record.pending_largest.max(Some(number));
 }
 
-fn first_that_holds(record: &Record, number: u64, earlier_highest: Option<u64>, run_begins: bool) -> u64 {
+fn first_that_holds(record: &Record, number: u64, earlier_highest: Option<u64>, congested: bool) -> u64 {
     // "2, count: N > T."
     if record.pending > record.threshold {
         return COUNT;
@@ -139,8 +142,8 @@ fn first_that_holds(record: &Record, number: u64, earlier_highest: Option<u64>, 
     if out_of_order(record, number, earlier_highest) {
         return ORDER;
     }
-    // "4, congestion: this packet has CE and the previously accepted packet, of either kind, had not, or there was none."
-    if run_begins {
+    // "4, congestion"
+    if congested {
         return CONGESTION;
     }
     NOT_DUE

@@ -104,7 +104,7 @@ pub enum Cause {
     Count,
     /// 3: packets are missing or came out of order.
     Order,
-    /// 4: a run of CE marks began.
+    /// 4: a packet had the CE mark: before the first accepted ACK_FREQUENCY any, then the first of a run.
     Congestion,
     /// 5: the delay in force has passed.
     Timer,
@@ -115,7 +115,7 @@ const CAUSES: [(Cause, &str); 5] = [
     (Cause::Immediate, "the sender asked for it"),
     (Cause::Count, "more packets came than the threshold"),
     (Cause::Order, "packets are missing or came out of order"),
-    (Cause::Congestion, "a run of congestion marks began"),
+    (Cause::Congestion, "a packet had a congestion mark"),
     (Cause::Timer, "the delay in force has passed"),
 ];
 

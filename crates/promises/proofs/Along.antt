@@ -4,7 +4,7 @@ use Prim.Native.Nat.{ℕ, zero, suc, _+_, _^_, _≤_, _<_, min, max}
 use mathlib.Core.Path.{_≡_, refl, sym, ap, ap₂, subst, _∙_}
 use mathlib.Core.Bool.{Bool, true, false}
 use mathlib.Core.List.{List, [], _∷_}
-use native.Mathlib.Nat.{le-min, min-eq-left, min-eq-right, max-eq-left, max-eq-right}
+use native.Mathlib.Nat.{le-min, min-eq-left, min-eq-right, max-eq-left, max-eq-right, le-max-right}
 use native.Mathlib.Omega.{arith}
 use borrow.Author.Tests.{le-ltb, lt-ltb, ne-eqb}
 use lib.Dec.{eqb}
@@ -17,12 +17,12 @@ use Rattle.seen.specs.declared.Seen.{Seen}
 use Rattle.receiver.specs.declared.Pending.{Pending}
 use Rattle.receiver.specs.declared.Agreed.{Agreed}
 use Rattle.receiver.specs.declared.Receiver.{Receiver}
-use Rattle.receiver.specs.Packet.{pendingAfter, firstCause, congestion, causeAfter, packetAfter, standing, handedBack}
+use Rattle.receiver.specs.Packet.{nothingAgreed, pendingAfter, firstCause, congestion, causeAfter, packetAfter, standing, handedBack}
 use Rattle.receiver.specs.Calls.{opened, usual, openRefusal, openCall, timerDue, agreedAfter}
 use Rattle.receiver.specs.Write.{afterWrite}
 use Rattle.promises.specs.Sequence.{Call, packet, timer, immediate, threshold, write, Calls, none, _then_, Reply, accepted, stale, refused, after, replied, opening}
 use Rattle.promises.specs.Accepted.{Packet, Frame, packetOf, frameOf, joined, acceptedOf, packets, since, before, frames}
-use Rattle.promises.specs.Told.{largest, elicitingOf, arrivalOf, firstArrival, lastMark, largestSequence, valuesOf, inForce, seenOf, leftArrival, pendingOf, tell}
+use Rattle.promises.specs.Told.{largest, elicitingOf, arrivalOf, firstArrival, lastMark, noFrame, largestSequence, valuesOf, inForce, seenOf, leftArrival, pendingOf, tell}
 use Rattle.promises.specs.Due.{known, ofPacket, due}
 use Rattle.promises.proofs.Acceptance.{made, Meets, PacketMeets, step-kept, step-made, step-meets}
 use Rattle.promises.proofs.Marks.{told-none, seen, seen-told}
@@ -82,6 +82,14 @@ sequence-told a (f ∷ fs) e =
     (λ h.
     let l : f .sequence + 1 ≤ largestSequence fs = omega arith in
     ap (λ (x : Agreed). x .sequence) (below-others a f fs h) ∙ sequence-told a fs e ∙ sym (max-eq-left l))
+
+-- and nothing is agreed exactly where no frame was accepted
+pub no-frame : (a : Agreed) (fs : List Frame) → a .sequence ≡ 0 → nothingAgreed (inForce a fs) ≡ noFrame fs
+unfolding noFrame largestSequence
+no-frame a [] e = ap (λ (n : ℕ). eqb n 0) (sequence-told a [] e)
+no-frame a (f ∷ fs) e =
+    ap (λ (n : ℕ). eqb n 0) (sequence-told a (f ∷ fs) e)
+    ∙ ne-eqb (max (largestSequence fs) (f .sequence + 1)) 0 (λ z. omega (arith, le-max-right (largestSequence fs) (f .sequence + 1)))
 
 -- ---- each call on the record that is told
 
@@ -199,6 +207,9 @@ starts t q m u = go (openRefusal t q m u)
 
 -- ---- from an opening
 
+pub nothing-processed : (t q : ℕ) (m : Millis) (u : Micros) → opening t q m u .agreed .sequence ≡ 0
+nothing-processed t q m u = starts t q m u .sequence
+
 module _ (t q : ℕ) (m : Millis) (u : Micros) (cs : Calls) where
   abbrev o : Receiver
   o = opening t q m u
@@ -224,4 +235,4 @@ module _ (t q : ℕ) (m : Millis) (u : Micros) (cs : Calls) where
   limits-are = ap (λ (r : Receiver). r .limits) agrees
 
   pub sequence-is : after o cs .agreed .sequence ≡ largestSequence (frames acc)
-  sequence-is = ap (λ (r : Receiver). r .agreed .sequence) agrees ∙ sequence-told (o .agreed) (frames acc) (starts t q m u .sequence)
+  sequence-is = ap (λ (r : Receiver). r .agreed .sequence) agrees ∙ sequence-told (o .agreed) (frames acc) (nothing-processed t q m u)

@@ -13,7 +13,7 @@ use Rattle.wire.specs.Bytes.{pick}
 use Rattle.receiver.specs.declared.Millis.{Millis}
 use Rattle.seen.specs.declared.Micros.{Micros}
 use Rattle.receiver.specs.declared.Receiver.{Receiver}
-use Rattle.receiver.specs.Packet.{startsCongestion, standing, handedBack}
+use Rattle.receiver.specs.Packet.{startsCongestion, nothingAgreed, standing, handedBack}
 use Rattle.receiver.specs.Calls.{opened, usual, openRefusal, openCall, timerDue}
 use Rattle.promises.specs.Sequence.{Call, packet, timer, immediate, threshold, write, Calls, none, _then_, Reply, accepted, stale, refused, after, replied, opening}
 use Rattle.promises.specs.Accepted.{Packet, packetOf, frameOf, joined, acceptedOf, packets, since, before, frames}
@@ -27,7 +27,7 @@ use Rattle.promises.proofs.Truth.{both-left, both-right}
 use Rattle.promises.proofs.Packets.{highest-below, pending-below}
 use Rattle.promises.proofs.Tallied.{Tallied, paid, counted-step, set-step, write-step, change-step, grown, ordered, bounded}
 use Rattle.promises.proofs.Charged.{rises}
-use Rattle.promises.proofs.Along.{above-others}
+use Rattle.promises.proofs.Along.{above-others, no-frame, nothing-processed}
 use Rattle.promises.proofs.Told.{told}
 use Rattle.promises.proofs.Due.{due-is}
 
@@ -133,14 +133,15 @@ module _ (o : Receiver) (t : ℕ) (cs : Calls) (v : Holds o t cs) where
     cause-holds zero old false i false j true = paid 3 (x′ true) (omega arith) (grow 0 x (omega arith) old)
     cause-holds zero old false i false j false = grow 0 (x′ false) (omega arith) old
 
-    got-holds : Holds o t (cs then packet n time true marked)
+    got-holds : o .agreed .sequence ≡ 0 → Holds o t (cs then packet n time true marked)
     unfolding packets since before frames pendingOf C howMany due elicitingOf largest Grown x′ p count
-    got-holds =
+    got-holds z =
         subst (λ (c : ℕ). TallyAt o t (cs then packet n time true marked) (standing (due o cs) c)) (sym (due-is .numbers o cs n time marked))
+        (rw (← no-frame (o .agreed) (frames cs) z)
         (simp add-zero
         (cause-holds (due o cs) v (ltb (inForce (o .agreed) (frames cs) .threshold) count) refl
         (orderOf (p ∷ packets cs) (inForce (o .agreed) (frames cs) .reordering) n (largest (elicitingOf (packets cs))) (largest (before cs)) (max (largest (elicitingOf (since cs))) (n + 1)))
-        refl (startsCongestion marked (lastMark (packets cs)))))
+        refl (startsCongestion marked (nothingAgreed (inForce (o .agreed) (frames cs))) (lastMark (packets cs))))))
 
 -- ---- every sequence from an opening
 
@@ -153,7 +154,7 @@ module _ (t q : ℕ) (maximum : Millis) (minimum : Micros) where
 
   -- an accepted call; a write finds an acknowledgment due
   call-holds : (u : ℕ) (cs : Calls) → Holds o u (acc cs) → (c : Call) → replied o cs c ≡ accepted → pick (isWrite c && true) (isDue (after o cs)) true ≡ true → Holds o u (acc cs then c)
-  call-holds u cs v (packet n time true marked) e d = got-holds o u (acc cs) v n time marked (told t q maximum minimum cs .once n time true marked e)
+  call-holds u cs v (packet n time true marked) e d = got-holds o u (acc cs) v n time marked (told t q maximum minimum cs .once n time true marked e) (nothing-processed t q maximum minimum)
   call-holds u cs v (packet n time false marked) e d = plain-holds o u (acc cs) v n time marked
   call-holds u cs v (timer time) e d = timer-holds o u (acc cs) v time
   call-holds u cs v immediate e d = immediate-holds o u (acc cs) v

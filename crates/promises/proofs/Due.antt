@@ -12,14 +12,14 @@ use Rattle.wire.specs.Bytes.{pick}
 use Rattle.seen.specs.declared.Micros.{Micros}
 use Rattle.receiver.specs.declared.Agreed.{Agreed}
 use Rattle.receiver.specs.declared.Receiver.{Receiver}
-use Rattle.receiver.specs.Packet.{startsCongestion, firstCause, congestion}
+use Rattle.receiver.specs.Packet.{startsCongestion, nothingAgreed, firstCause, congestion}
 use Rattle.promises.specs.Sequence.{packet, Calls, _then_, opening}
 use Rattle.promises.specs.Accepted.{Packet, acceptedOf, packets, since, before, frames}
 use Rattle.promises.specs.Told.{largest, elicitingOf, lastMark, inForce, seenOf, pendingOf}
 use Rattle.promises.specs.Due.{known, ofPacket, inNumbers, Due}
 use Rattle.promises.specs.Bound.{StartsAsRead}
 use Rattle.promises.proofs.Order.{in-numbers}
-use Rattle.promises.proofs.Along.{agrees, cause-is}
+use Rattle.promises.proofs.Along.{no-frame, nothing-processed, agrees, cause-is}
 
 -- a mark that was stored as 1 or 0 is read back
 mark-kept : (b : Bool) → not (eqb (pick b 1 0) 0) ≡ b
@@ -27,14 +27,17 @@ mark-kept true = refl
 mark-kept false = refl
 
 -- where there is no packet the last one had no mark
-no-packet : (marked : Bool) (ps : List Packet) → startsCongestion marked (not (eqb (largest ps) 0) && not (eqb (pick (lastMark ps) 1 0) 0)) ≡ startsCongestion marked (lastMark ps)
+no-packet : (marked none : Bool) (ps : List Packet)
+    → startsCongestion marked none (not (eqb (largest ps) 0) && not (eqb (pick (lastMark ps) 1 0) 0)) ≡ startsCongestion marked none (lastMark ps)
 unfolding largest lastMark
-no-packet marked [] = refl
-no-packet marked (p ∷ ps) = rw (ne-eqb (largest (p ∷ ps)) 0 (λ z. omega (arith, le-max-right (largest ps) (p .number + 1)))) (ap (startsCongestion marked) (mark-kept (p .marked)))
+no-packet marked none [] = refl
+no-packet marked none (p ∷ ps) =
+    rw (ne-eqb (largest (p ∷ ps)) 0 (λ z. omega (arith, le-max-right (largest ps) (p .number + 1)))) (ap (startsCongestion marked none) (mark-kept (p .marked)))
 
-congestion-told : (opened : Receiver) (cs : Calls) (marked : Bool) → congestion (known opened cs) marked ≡ startsCongestion marked (lastMark (packets cs))
+congestion-told : (opened : Receiver) (cs : Calls) (marked : Bool)
+    → congestion (known opened cs) marked ≡ startsCongestion marked (nothingAgreed (inForce (opened .agreed) (frames cs))) (lastMark (packets cs))
 unfolding congestion seenOf
-congestion-told opened cs marked = no-packet marked (packets cs)
+congestion-told opened cs marked = no-packet marked (nothingAgreed (inForce (opened .agreed) (frames cs))) (packets cs)
 
 numbers-are : (opened : Receiver) (cs : Calls) (n : ℕ) (time : Micros) (marked : Bool) → ofPacket opened cs n time marked ≡ inNumbers opened cs n time marked
 unfolding firstCause seenOf pendingOf
@@ -51,4 +54,7 @@ due-is = record { cause = cause-is; numbers = numbers-are }
 pub starts-as-read : StartsAsRead
 unfolding congestion
 starts-as-read t q maximum minimum cs marked =
-    ap (λ (r : Receiver). congestion r marked) (agrees t q maximum minimum cs) ∙ congestion-told (opening t q maximum minimum) (acceptedOf (opening t q maximum minimum) cs) marked
+    ap (λ (r : Receiver). congestion r marked) (agrees t q maximum minimum cs)
+    ∙ congestion-told (opening t q maximum minimum) (acceptedOf (opening t q maximum minimum) cs) marked
+    ∙ ap (λ (none : Bool). startsCongestion marked none (lastMark (packets (acceptedOf (opening t q maximum minimum) cs))))
+    (no-frame (opening t q maximum minimum .agreed) (frames (acceptedOf (opening t q maximum minimum) cs)) (nothing-processed t q maximum minimum))

@@ -13,7 +13,7 @@ use Rattle.seen.specs.Ack.{rangesBelow, frame}
 use Rattle.receiver.specs.Write.{writeRefusal, afterWrite}
 use Rattle.promises.specs.Sequence.{step, inOrder, after}
 use Rattle.promises.specs.Accepted.{acceptedOf, packets, frames}
-use Rattle.promises.specs.Told.{largest, elicitingOf, among, lastMark}
+use Rattle.promises.specs.Told.{noFrame, largest, elicitingOf, among, lastMark}
 use Rattle.promises.specs.Passed.{count, passed, passedOver}
 use Rattle.promises.specs.Counted.{C, smallest, howMany}
 use Rattle.promises.specs.Bound.{onlyDue}
@@ -21,11 +21,12 @@ use Rattle.promises.specs.Order.{Apart}
 use Rattle.promises.specs.Reached.{eachWritten, Reached}
 
 pub reached : Reached
-unfolding firstFrom form encode encodeAll gapsFrom ackNumbers numberOf wordsOf bit firstClear runBelow limitsRule delayRule seenConsistent pendingConsistent agreedConsistent consistent numberRefusal packetRefusal seenAfter pendingAfter firstMissing outOfOrder gapReached order congestion firstCause causeAfter packetAfter packetCall opened openRefusal openCall immediateRefusal immediateCall timerDue timerRefusal timerCall agreedAfter thresholdVerdict thresholdCall rangesBelow frame writeRefusal afterWrite step inOrder after acceptedOf packets frames largest elicitingOf among lastMark count passed passedOver C smallest howMany onlyDue eachWritten
+unfolding firstFrom form encode encodeAll gapsFrom ackNumbers numberOf wordsOf bit firstClear runBelow limitsRule delayRule seenConsistent pendingConsistent agreedConsistent consistent numberRefusal packetRefusal seenAfter pendingAfter firstMissing outOfOrder gapReached order congestion firstCause causeAfter packetAfter packetCall opened openRefusal openCall immediateRefusal immediateCall timerDue timerRefusal timerCall agreedAfter thresholdVerdict thresholdCall rangesBelow frame writeRefusal afterWrite step inOrder after acceptedOf packets frames largest elicitingOf among lastMark noFrame count passed passedOver C smallest howMany onlyDue eachWritten
 reached =
     record {
       manyWrites = record { due = refl; written = refl; most = refl };
       everyCause = record { due = refl; written = refl; most = refl };
+      eachMark = record { due = refl; written = refl; most = refl };
       someRefused = record { due = refl; written = refl; most = refl };
       refusedOpening = record { due = refl; written = refl; most = refl };
       raisedR = record { due = refl; eliciting = refl; passed = refl; frames = refl; others = refl; written = refl };

@@ -9,8 +9,8 @@ use Rattle.seen.specs.declared.Micros.{Micros}
 use Rattle.receiver.specs.declared.Receiver.{Receiver}
 use Rattle.receiver.specs.Packet.{startsCongestion, congestion}
 use Rattle.promises.specs.Sequence.{Calls, none, _then_, Reply, accepted, stale, refused, after, replied, opening}
-use Rattle.promises.specs.Accepted.{acceptedOf, packets}
-use Rattle.promises.specs.Told.{lastMark}
+use Rattle.promises.specs.Accepted.{acceptedOf, packets, frames}
+use Rattle.promises.specs.Told.{lastMark, noFrame}
 use Rattle.promises.specs.Counted.{E, S, T, F, C, I, D, W, isWrite, openingT}
 
 -- ---- the premise
@@ -46,4 +46,5 @@ WrittenAtMost =
 abbrev pub StartsAsRead : Type 0
 StartsAsRead =
     (t q : ℕ) (maximum : Millis) (minimum : Micros) (cs : Calls) (marked : Bool)
-    → congestion (after (opening t q maximum minimum) cs) marked ≡ startsCongestion marked (lastMark (packets (acceptedOf (opening t q maximum minimum) cs)))
+    → congestion (after (opening t q maximum minimum) cs) marked
+    ≡ startsCongestion marked (noFrame (frames (acceptedOf (opening t q maximum minimum) cs))) (lastMark (packets (acceptedOf (opening t q maximum minimum) cs)))

@@ -11,7 +11,7 @@ use Rattle.receiver.specs.Calls.{openCall}
 use Rattle.receiver.specs.Packet.{startsCongestion}
 use Rattle.promises.specs.Sequence.{Call, packet, timer, immediate, threshold, write, Calls, none, _then_}
 use Rattle.promises.specs.Accepted.{Frame, packets, frames}
-use Rattle.promises.specs.Told.{elicitingOf, lastMark}
+use Rattle.promises.specs.Told.{elicitingOf, lastMark, noFrame}
 use Rattle.promises.specs.Passed.{oneIf, passedOver}
 
 -- ---- of the packets
@@ -27,7 +27,7 @@ S cs = passedOver (packets cs)
 -- "C starts of congestion marking": "accepted ack-eliciting packets for which the congestion line holds", each after the calls before it
 unfoldable pub C : Calls → ℕ
 C none = 0
-C (cs then packet n time eliciting marked) = C cs + oneIf (eliciting && startsCongestion marked (lastMark (packets cs)))
+C (cs then packet n time eliciting marked) = C cs + oneIf (eliciting && startsCongestion marked (noFrame (frames cs)) (lastMark (packets cs)))
 C (cs then timer time) = C cs
 C (cs then immediate) = C cs
 C (cs then threshold sequence t delay q) = C cs

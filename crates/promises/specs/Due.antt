@@ -7,7 +7,7 @@ use Rattle.wire.specs.Bytes.{pick}
 use Rattle.receiver.specs.declared.Millis.{Millis}
 use Rattle.seen.specs.declared.Micros.{Micros}
 use Rattle.receiver.specs.declared.Receiver.{Receiver}
-use Rattle.receiver.specs.Packet.{startsCongestion, standing, firstCause}
+use Rattle.receiver.specs.Packet.{startsCongestion, nothingAgreed, standing, firstCause}
 use Rattle.receiver.specs.Calls.{timerDue}
 use Rattle.promises.specs.Sequence.{packet, timer, immediate, threshold, write, Calls, none, _then_, after, opening}
 use Rattle.promises.specs.Accepted.{acceptedOf, packets, since, before, frames}
@@ -40,7 +40,7 @@ inNumbers opened cs n time marked =
     let now = cs then packet n time true marked in
     pick (ltb (values .threshold) (pendingOf now .count)) 2
     (pick (orderOf (packets now) (values .reordering) n (largest (elicitingOf (packets cs))) (largest (before cs)) (largest (elicitingOf (since now)))) 3
-    (pick (startsCongestion marked (lastMark (packets cs))) 4 0))
+    (pick (startsCongestion marked (nothingAgreed values) (lastMark (packets cs))) 4 0))
 
 pub record Due : Type 0 where
   -- the cause after any calls from any opening

@@ -60,6 +60,10 @@ unfoldable pub eachWritten : ℕ → ℕ → List Call
 eachWritten zero m = []
 eachWritten (suc n) m = arrives m ∷ writes ∷ eachWritten n (suc m)
 
+-- nothing was agreed: each of two packets with CE is due
+abbrev pub eachMark : List Call
+eachMark = packet 0 start true true ∷ writes ∷ packet 1 start true true ∷ writes ∷ []
+
 -- five packets exceed T 4; 6 passes 5 over; 5 comes late; 7 has CE; 8 waits for the timer; IMMEDIATE_ACK
 abbrev pub everyCause : List Call
 everyCause =
@@ -101,6 +105,8 @@ pub record Reached : Type 0 where
   pub manyWrites : Reaches 0 1 (eachWritten 20 0) 20
   -- T 4, R 1: six writes, and 9 / (4 + 1) + 2 x 1 x (0 + 1) + (1 + 1 + 1)
   pub everyCause : Reaches 4 1 everyCause 6
+  -- T 9, R 0: two writes, and C = 2
+  pub eachMark : Reaches 9 0 eachMark 2
   -- T 4, then 1: one write, and 3 / (1 + 1)
   pub someRefused : Reaches 4 1 someRefused 1
   -- a refused opening: T is 1, one write, and 2 / (1 + 1)

@@ -2,7 +2,7 @@
 -- Each quantity is read from the lists of accepted packets and frames; what may be absent is an end, one past the number, and 0 for none.
 use Prim.Native.Nat.{ℕ, zero, suc, _+_, _^_, _≤_, _<_, min, max}
 use mathlib.Core.Path.{_≡_}
-use mathlib.Core.Bool.{Bool, false, _&&_, _||_}
+use mathlib.Core.Bool.{Bool, true, false, _&&_, _||_}
 use mathlib.Core.List.{List, [], _∷_}
 use lib.Dec.{leb, ltb, eqb}
 use lib.ListN.{length}
@@ -63,6 +63,11 @@ marks test zero = 0
 marks test (suc k) = pick (test k) (withBit (marks test k) k) (marks test k)
 
 -- ---- of a list of frames
+
+-- none was accepted yet
+unfoldable pub noFrame : List Frame → Bool
+noFrame [] = true
+noFrame (f ∷ fs) = false
 
 -- the largest sequence
 unfoldable pub largestSequence : List Frame → ℕ

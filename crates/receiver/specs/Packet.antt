@@ -9,6 +9,7 @@ use Rattle.window.specs.declared.Missing.the-variants.{At, Nothing}
 use Rattle.seen.specs.declared.Micros.{Micros}
 use Rattle.seen.specs.declared.Seen.{Seen}
 use Rattle.receiver.specs.declared.Pending.{Pending}
+use Rattle.receiver.specs.declared.Agreed.{Agreed}
 use Rattle.receiver.specs.declared.Receiver.{Receiver}
 use Rattle.receiver.specs.declared.Answer.{Answer}
 use Rattle.seen.specs.Numbers.{small}
@@ -50,17 +51,21 @@ order s zero n highest acknowledged end = false
 order s (suc zero) n highest acknowledged end = outOfOrder s n highest
 order s (suc (suc r)) n highest acknowledged end = gapReached s (min (suc (suc r)) 1023) acknowledged end
 
--- "4, congestion: this packet has CE and the previously accepted packet, of either kind, had not, or there was none";
--- `before` is that packet's mark, false where there was none
-abbrev pub startsCongestion : Bool → Bool → Bool
-startsCongestion ce before = ce && not before
+-- "4, congestion": "Until the first threshold frame is accepted, every accepted ack-eliciting packet with CE sets cause 4; from then on the start-of-run rule holds" (02, No. 1):
+-- "this packet has CE and the previously accepted packet, of either kind, had not, or there was none"; `before` is that packet's mark, false where there was none
+abbrev pub startsCongestion : Bool → Bool → Bool → Bool
+startsCongestion ce noFrameYet before = ce && (noFrameYet || not before)
+
+-- no threshold frame was accepted yet, as the record keeps it: no sequence was processed
+abbrev pub nothingAgreed : Agreed → Bool
+nothingAgreed a = eqb (a .sequence) 0
 
 -- the mark of the packet before, as the record keeps it: CE where the number is not 0
 abbrev pub markBefore : Receiver → Bool
 markBefore r = not (eqb (r .seen .end) 0) && not (eqb (r .ce) 0)
 
 unfoldable pub congestion : Receiver → Bool → Bool
-congestion r ce = startsCongestion ce (markBefore r)
+congestion r ce = startsCongestion ce (nothingAgreed (r .agreed)) (markBefore r)
 
 -- "the first that holds becomes the cause", 2 being "count: N > T"
 unfoldable pub firstCause : Receiver → ℕ → Bool → Seen → Pending → ℕ

@@ -57,12 +57,16 @@ fn order(
 }
 
 impl Receiver {
-    // Cause 4: this packet has CE and the one accepted before it had not, or there was none.
+    // Cause 4: this packet has CE, and no threshold frame was accepted yet (02, No. 1), or the packet accepted before it had not, or there was none.
     fn congestion(self, ce: bool) -> bool
         ensures { λ r. ⌜ r ≡ congestion self ce ⌝ }
     {
         if !ce {
             return false;
+        }
+        let agreed = self.agreed;
+        if agreed.sequence == 0 {
+            return true;
         }
         let seen = self.seen;
         if seen.end == 0 {

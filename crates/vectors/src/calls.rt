@@ -201,3 +201,19 @@ pub fn threshold(
     show::verdict(verdict, agreed);
     next
 }
+
+// An ack-eliciting packet at time 0, the cause after it, and then a write.
+pub fn packet(receiver: Receiver, number: u64, ce: bool) -> Receiver {
+    show::count(b"packet ", number);
+    if ce {
+        show::text(b" CE");
+    }
+    let answer = receiver.packet(number, Micros(0), true, ce);
+    let next = answer.next;
+    show::count(b": result ", answer.result);
+    show::count(b", cause ", next.cause);
+    show::text(b"\n");
+    let mut room = [0u8; 32];
+    let wrote = next.write(Micros(0), &mut room);
+    wrote.next
+}

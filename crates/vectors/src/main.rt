@@ -186,6 +186,26 @@ fn thresholds_heard() {
     calls::threshold(fourth, 6, 2, 25000, 1);
 }
 
+// 02, No. 1: a refused frame agrees nothing, and the memory of the last mark runs on through the first accepted one.
+fn congestion() {
+    show::text(
+        b"\nUntil the first accepted frame each CE packet is due, then the first of a run; ",
+    );
+    show::text(b"each packet is followed by a write\n");
+    let opened = Receiver::open(1000, 0, Millis(25), Micros(1000));
+    let first = calls::packet(opened.next, 0, true);
+    let second = calls::packet(first, 1, true);
+    let refused = calls::threshold(second, 5, 1000, 999, 0);
+    let third = calls::packet(refused, 2, true);
+    let agreed = calls::threshold(third, 5, 1000, 25000, 0);
+    let fourth = calls::packet(agreed, 3, true);
+    let stale = calls::threshold(fourth, 5, 1000, 25000, 0);
+    let fifth = calls::packet(stale, 4, true);
+    let ended = calls::packet(fifth, 5, false);
+    let begun = calls::packet(ended, 6, true);
+    calls::packet(begun, 7, true);
+}
+
 fn main() {
     head();
     published_read();
@@ -203,4 +223,5 @@ fn main() {
     ack_before_room();
     frames_written();
     thresholds_heard();
+    congestion();
 }

@@ -21,7 +21,15 @@ twice false = refl
 
 returns-3 : tie.Need-returns-3
 unfolding congestion
-returns-3 c = rw (not-false (c .before .before .before .before .before .args .ce) (c .before .before .before .before .if1 .left), ne-eqb _ _ (c .before .if2 .left)) (twice _)
+returns-3 c =
+    let first = c .before .before .before in
+    rw (not-false (first .before .before .before .before .args .ce) (first .before .before .before .if1 .left), ne-eqb _ _ (first .if2 .left), eq-eqb _ _ (c .if3 .taken))
+
+returns-4 : tie.Need-returns-4
+unfolding congestion
+returns-4 c =
+    let first = c .before .before .before .before in
+    rw (not-false (first .before .before .before .before .args .ce) (first .before .before .before .if1 .left), ne-eqb _ _ (first .if2 .left), ne-eqb _ _ (c .before .if3 .left)) (twice _)
 
 pub congestion-spec : {M : Type 1} → statement M
-congestion-spec = tie.close (tie.spec returns returns-2 returns-3)
+congestion-spec = tie.close (tie.spec returns returns-2 returns-3 returns-4)
