@@ -41,7 +41,7 @@ extern "C" {
 /* The largest number, threshold and time: 2^62 - 1. */
 #define LUMBIXET_LARGEST UINT64_C(4611686018427387903)
 
-/* Room that always suffices; tools/check-header.c computes each again. */
+/* Room that always suffices; tools/check-room.c computes each again. */
 #define LUMBIXET_ACK_ROOM 1042     /* bytes of an ACK frame with every range that the window can have */
 #define LUMBIXET_FREQUENCY_ROOM 34 /* bytes of an ACK_FREQUENCY frame */
 #define LUMBIXET_REPORT_ROOM 894   /* bytes of a report with 4 metrics and 50 entries */
