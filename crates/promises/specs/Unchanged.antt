@@ -6,7 +6,7 @@ use Rattle.promises.specs.Sequence.{Call, Calls, accepted, _then_, step,
 use Rattle.promises.specs.Accepted.{acceptedOf}
 
 pub record Unchanged : Type 0 where
-  -- "A refusal returns its number and the record as it came in"; a stale frame "answers stale, and nothing changes"
+  -- "A refusal returns its number and the record as it came in"; of a stale frame "nothing changes"
   pub call : (r : Receiver) (c : Call) → (step r c .reply ≡ accepted → ⊥) → step r c .next ≡ r
   -- after any calls cs a call c that is not accepted there may be left out: whatever calls l come after it, the record is the same
   pub later : (r : Receiver) (cs : Calls) (c : Call) (l : List Call) → (replied r cs c ≡ accepted → ⊥) → after r (inOrder (cs then c) l) ≡ after r (inOrder cs l)

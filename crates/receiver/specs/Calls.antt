@@ -44,7 +44,7 @@ openRefusal threshold reordering maximum minimum =
     (pick (limitsRule (record { maximum = maximum; minimum = minimum })) 0 4)
     5
 
--- "a refused opening hands back that record beside its number"
+-- "a refused opening (5, then 4) hands back that record beside its number"
 unfoldable pub openCall : ℕ → ℕ → Millis → Micros → Answer
 openCall threshold reordering maximum minimum =
     handedBack (openRefusal threshold reordering maximum minimum) usual (opened threshold reordering maximum minimum)

@@ -84,7 +84,7 @@ headerOf ns = record {
   entries = countOf ns;
 }
 
--- "all numbers 0, no metrics, no entries", which a refused read hands back
+-- all numbers 0, no metrics, no entries: what a refused read hands back
 unfoldable pub emptyHeader : Header
 emptyHeader = record {
   timestamp = 0;
