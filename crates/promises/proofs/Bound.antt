@@ -17,7 +17,7 @@ use Rattle.receiver.specs.Packet.{startsCongestion, nothingAgreed, standing, ha
 use Rattle.receiver.specs.Calls.{opened, usual, openRefusal, openCall, timerDue}
 use Rattle.promises.specs.Sequence.{Call, packet, timer, immediate, threshold, write, Calls, none, _then_, Reply, accepted, stale, refused, after, replied, opening}
 use Rattle.promises.specs.Accepted.{Packet, packetOf, frameOf, joined, acceptedOf, packets, since, before, frames}
-use Rattle.promises.specs.Told.{largest, elicitingOf, among, lastMark, largestSequence, inForce, pendingOf}
+use Rattle.promises.specs.Told.{largest, elicitingOf, among, lastMark, noFrame, largestSequence, inForce, pendingOf}
 use Rattle.promises.specs.Order.{orderOf}
 use Rattle.promises.specs.Due.{known, due}
 use Rattle.promises.specs.Passed.{oneIf}
@@ -133,11 +133,16 @@ module _ (o : Receiver) (t : ℕ) (cs : Calls) (v : Holds o t cs) where
     cause-holds zero old false i false j true = paid 3 (x′ true) (omega arith) (grow 0 x (omega arith) old)
     cause-holds zero old false i false j false = grow 0 (x′ false) (omega arith) old
 
+    -- C with this packet, by the congestion line
+    started : C (cs then packet n time true marked) ≡ C cs + oneIf (startsCongestion marked (noFrame (frames cs)) (lastMark (packets cs)))
+    unfolding C
+    started = refl
+
     got-holds : o .agreed .sequence ≡ 0 → Holds o t (cs then packet n time true marked)
-    unfolding packets since before frames pendingOf C howMany due elicitingOf largest Grown x′ p count
+    unfolding packets since before frames pendingOf howMany due elicitingOf largest Grown x′ p count
     got-holds z =
         subst (λ (c : ℕ). TallyAt o t (cs then packet n time true marked) (standing (due o cs) c)) (sym (due-is .numbers o cs n time marked))
-        (rw (← no-frame (o .agreed) (frames cs) z)
+        (rw (started, ← no-frame (o .agreed) (frames cs) z)
         (simp add-zero
         (cause-holds (due o cs) v (ltb (inForce (o .agreed) (frames cs) .threshold) count) refl
         (orderOf (p ∷ packets cs) (inForce (o .agreed) (frames cs) .reordering) n (largest (elicitingOf (packets cs))) (largest (before cs)) (max (largest (elicitingOf (since cs))) (n + 1)))

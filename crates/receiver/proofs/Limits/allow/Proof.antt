@@ -7,7 +7,7 @@ use Rattle.receiver.proofs.Limits.allow.Tie as tie
 
 returns : tie.Need-returns
 unfolding delayRule
-returns c = rw (le-ltb _ _ (c .if1 .taken))
+returns c = rw (le-ltb (c .before .before .args .delay .0) 16384000 (c .if1 .taken))
 
 returns-2 : tie.Need-returns-2
 unfolding delayRule

@@ -1,9 +1,14 @@
 -- `receiver::Receiver::with` meets its contract: each field is given as the definition says, and a consistent record keeps every number in range.
 -- Assumes nothing.
-use Prim.Native.Nat.{_+_, _≤_, _<_}
-use mathlib.Core.Path.{_≡_, _∙_}
+use Prim.Native.Nat.{ℕ, _+_, _≤_, _<_}
+use mathlib.Core.Path.{_≡_, ap, _∙_}
+use mathlib.Core.Bool.{Bool, false}
 use native.Mathlib.Omega.{arith}
 use borrow.Author.Tests.{not-true, not-false}
+use Rattle.wire.specs.Bytes.{pick}
+use Rattle.seen.specs.declared.Micros.{Micros}
+use Rattle.seen.specs.declared.Seen.{Seen}
+use Rattle.receiver.specs.declared.Receiver.{Receiver}
 use Rattle.seen.specs.Received.{seenAfter}
 use Rattle.seen.proofs.After.{with-small}
 use Rattle.receiver.specs.Packet.{packetAfter}
@@ -23,9 +28,39 @@ seen-with c = c .with .ensures ∙ with-small _ _ _ (c .before .before .pre .0)
 as-number-requires : tie.Need-as-number-requires
 as-number-requires c κs = search needs
 
-returns : tie.Need-returns
+-- a packet that is not ack-eliciting leaves the window and its mark, and nothing else
+plain : (r : Receiver) (n : ℕ) (time : Micros) (eliciting ce : Bool) (s : Seen) (mark : ℕ) → eliciting ≡ false → s ≡ seenAfter (r .seen) n time → mark ≡ pick ce 1 0
+    → record {
+      seen = s;
+      pending = r .pending;
+      agreed = r .agreed;
+      limits = r .limits;
+      acknowledged = r .acknowledged;
+      highest = r .highest;
+      ce = mark;
+      cause = r .cause;
+    } ≡ packetAfter r n time eliciting ce
 unfolding packetAfter
-returns c = rw (not-true (c .before .before .before .before .before .before .before .args .eliciting) (c .before .before .if1 .taken), c .before .before .before .before .as-number .ensures, seen-with (c .before .before .before .before .before))
+plain r n time eliciting ce s mark i j k =
+    rw (i, j)
+    (ap
+    (λ (x : ℕ).
+    record {
+      seen = seenAfter (r .seen) n time;
+      pending = r .pending;
+      agreed = r .agreed;
+      limits = r .limits;
+      acknowledged = r .acknowledged;
+      highest = r .highest;
+      ce = x;
+      cause = r .cause;
+    })
+    k)
+
+returns : tie.Need-returns
+returns c =
+    let at = c .before .before .before .before .before .before .before in
+    plain _ _ _ _ _ _ _ (not-true (at .args .eliciting) (c .before .before .if1 .taken)) (seen-with (c .before .before .before .before .before)) (c .before .before .before .before .as-number .ensures)
 
 with-requires-2 : tie.Need-with-requires-2
 with-requires-2 c κs = (c .before .before .before .before .before .pre .0, consistent-exactly _ .0 (c .before .before .before .before .before .pre .1) .count)
