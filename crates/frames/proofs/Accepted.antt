@@ -15,7 +15,7 @@ use Rattle.wire.specs.Standing.{Stand, none, one}
 use Rattle.wire.specs.declared.Number.the-variants.{Value}
 use Rattle.wire.proofs.Accepted.{accepted-small}
 use Rattle.frames.specs.Types.{ackType}
-use Rattle.frames.specs.Ack.{Ranges, ended, before, below, rangesFrom, AckRead, refused, afterWalk, readRanges, readAck, gapsFrom, ackNumbers, RangesBelow, AckRanges}
+use Rattle.frames.specs.Ack.{Ranges, ended, before, range, below, rangesFrom, AckRead, refused, afterWalk, readRanges, readAck, gapsFrom, ackNumbers, RangesBelow, AckRanges}
 use Rattle.frames.specs.Refusals.{ackRefusal}
 use Rattle.frames.specs.EachWay.{AckTells, AckReadWrite}
 use Rattle.frames.specs.declared.Walk.{Walk}
@@ -49,42 +49,66 @@ walk-of e = ap (λ (r : Ranges). r .walk) e
 stands : (s : List ℕ) {at mid next v w : ℕ} {vs : List ℕ} → v ≡ w → readNumber s at ≡ Value v mid → Stand s mid vs next → Stand s at (w ∷ vs) next
 stands s {mid = mid} e r t = one (r ∙ ap (λ (x : ℕ). Value x mid) e) t
 
-walked : (count : ℕ) (s : List ℕ) (at hi used : ℕ) → rangesFrom count s at hi .walk ≡ Whole used → Walked s count at hi used (rangesFrom count s at hi .pairs)
-unfolding rangesFrom RangesBelow gapsFrom
-walked zero s at hi used e =
-    let r = field-read (readNumber s at) {y = rangesFrom zero s at hi} refl (λ h. no-end e (walk-of h)) in
+-- a range of a whole walk: its length was read, and the walk went on from its smallest
+range-read : (s : List ℕ) (at hi used : ℕ) (f : ℕ → ℕ → Ranges) → range s at hi f .walk ≡ Whole used
+    → (len : ℕ) × (mid : ℕ) × (readNumber s at ≡ Value len mid) × (len ≤ hi) × (before (hi - len) hi (f (hi - len) mid) ≡ range s at hi f)
+range-read s at hi used f e =
+    let r = field-read (readNumber s at) {y = range s at hi f} refl (λ h. no-end e (walk-of h)) in
     let t = test-held (leb (r .0) hi) (r .3) (λ h. no-low e (walk-of h)) in
-    let l : r .0 ≤ hi = leb-true (r .0) hi (t .0) in
-    let w : Whole (r .1) ≡ Whole used = walk-of (t .1) ∙ e in
-    let u : r .1 ≡ used = cc in
+    (r .0, r .1, r .2, leb-true (r .0) hi (t .0), t .1)
+
+-- a gap of a whole walk likewise
+below-read : (s : List ℕ) (at lo used : ℕ) (f : ℕ → ℕ → Ranges) → below s at lo f .walk ≡ Whole used
+    → (gap : ℕ) × (next : ℕ) × (readNumber s at ≡ Value gap next) × (gap + 2 ≤ lo) × (f (lo - gap - 2) next ≡ below s at lo f)
+below-read s at lo used f e =
+    let r = field-read (readNumber s at) {y = below s at lo f} refl (λ h. no-end e (walk-of h)) in
+    let t = test-held (leb (r .0 + 2) lo) (r .3) (λ h. no-low e (walk-of h)) in
+    (r .0, r .1, r .2, leb-true (r .0 + 2) lo (t .0), t .1)
+
+-- the last range
+last-walked : (s : List ℕ) (at hi used len mid : ℕ) (y : Ranges) → readNumber s at ≡ Value len mid → len ≤ hi → before (hi - len) hi (ended (Whole mid)) ≡ y
+    → y .walk ≡ Whole used → Walked s 0 at hi used (y .pairs)
+unfolding RangesBelow gapsFrom
+last-walked s at hi used len mid y r l t e =
+    let w : Whole mid ≡ Whole used = walk-of t ∙ e in
+    let u : mid ≡ used = cc in
     record {
-      lo = hi - r .0;
+      lo = hi - len;
       rest = [];
-      made = sym (ap (λ (x : Ranges). x .pairs) (t .1));
+      made = sym (ap (λ (x : Ranges). x .pairs) t);
       holds = omega arith;
       descend = tt;
       many = refl;
-      stand = subst (Stand s at ((hi - (hi - r .0)) ∷ [])) u (stands s (omega arith) (r .2) none);
+      stand = subst (Stand s at ((hi - (hi - len)) ∷ [])) u (stands s (omega arith) r none);
     }
+
+-- a range before those of which it is known
+more-walked : (s : List ℕ) (count at hi used len mid gap next : ℕ) (pairs later : List ℕ) → readNumber s at ≡ Value len mid → len ≤ hi
+    → readNumber s mid ≡ Value gap next → gap + 2 ≤ hi - len → (hi - len) ∷ hi ∷ later ≡ pairs
+    → Walked s count next (hi - len - gap - 2) used later → Walked s (suc count) at hi used pairs
+unfolding RangesBelow gapsFrom
+more-walked s count at hi used len mid gap next pairs later r l g m p i = record {
+  lo = hi - len;
+  rest = i .lo ∷ (hi - len - gap - 2) ∷ i .rest;
+  made = sym p ∙ ap (λ (ps : List ℕ). (hi - len) ∷ hi ∷ ps) (i .made);
+  holds = omega arith;
+  descend = (i .holds, omega arith, i .descend);
+  many = omega (arith, i .many);
+  stand = stands s (omega arith) r (stands s (omega arith) g (i .stand));
+}
+
+walked : (count : ℕ) (s : List ℕ) (at hi used : ℕ) → rangesFrom count s at hi .walk ≡ Whole used → Walked s count at hi used (rangesFrom count s at hi .pairs)
+unfolding rangesFrom
+walked zero s at hi used e =
+    let r = range-read s at hi used (λ smallest next. ended (Whole next)) e in
+    last-walked s at hi used (r .0) (r .1) (rangesFrom zero s at hi) (r .2) (r .3) (r .4) e
 walked (suc count) s at hi used e =
-    let r = field-read (readNumber s at) {y = rangesFrom (suc count) s at hi} refl (λ h. no-end e (walk-of h)) in
-    let t = test-held (leb (r .0) hi) (r .3) (λ h. no-low e (walk-of h)) in
-    let l : r .0 ≤ hi = leb-true (r .0) hi (t .0) in
-    let lo : ℕ = hi - r .0 in
-    let on : below s (r .1) lo (λ lower next. rangesFrom count s next lower) .walk ≡ Whole used = walk-of (t .1) ∙ e in
-    let g = field-read (readNumber s (r .1)) {y = below s (r .1) lo (λ lower next. rangesFrom count s next lower)} refl (λ h. no-end on (walk-of h)) in
-    let f = test-held (leb (g .0 + 2) lo) (g .3) (λ h. no-low on (walk-of h)) in
-    let m : g .0 + 2 ≤ lo = leb-true (g .0 + 2) lo (f .0) in
-    let i = walked count s (g .1) (lo - g .0 - 2) used (walk-of (f .1) ∙ on) in
-    record {
-      lo = lo;
-      rest = i .lo ∷ (lo - g .0 - 2) ∷ i .rest;
-      made = sym (ap (λ (x : Ranges). x .pairs) (t .1)) ∙ ap (λ (x : Ranges). lo ∷ hi ∷ x .pairs) (sym (f .1)) ∙ ap (λ (ps : List ℕ). lo ∷ hi ∷ ps) (i .made);
-      holds = omega arith;
-      descend = (i .holds, omega arith, i .descend);
-      many = omega (arith, i .many);
-      stand = stands s (omega arith) (r .2) (stands s (omega arith) (g .2) (i .stand));
-    }
+    let r = range-read s at hi used (λ smallest mid. below s mid smallest (λ lower next. rangesFrom count s next lower)) e in
+    let g = below-read s (r .1) (hi - r .0) used (λ lower next. rangesFrom count s next lower) (walk-of (r .4) ∙ e) in
+    more-walked s count at hi used (r .0) (r .1) (g .0) (g .1) (rangesFrom (suc count) s at hi .pairs) (rangesFrom count s (g .1) (hi - r .0 - g .0 - 2) .pairs)
+    (r .2) (r .3) (g .2) (g .3)
+    (ap (λ (x : Ranges). (hi - r .0) ∷ hi ∷ x .pairs) (g .4) ∙ ap (λ (x : Ranges). x .pairs) (r .4))
+    (walked count s (g .1) (hi - r .0 - g .0 - 2) used (walk-of (g .4) ∙ (walk-of (r .4) ∙ e)))
 
 -- ---- the frame
 
@@ -137,7 +161,8 @@ ack-read-write s xs l d ranges used o e =
     let b = field-read (readNumber s (a .1)) {y = y} (a .3) (not-cut s xs y ok) in
     let c = field-read (readNumber s (b .1)) {y = y} (b .3) (not-cut s xs y ok) in
     let w = answered s xs y ok (c .1) (a .0) (b .0) (c .0) (c .3) in
-    same (w .2) (tells s xs _ (a .0) (b .0) (c .0) (w .0) (a .1) (b .1) (c .1) o (k .0) (a .2) (b .2) (c .2) (walked (c .0) s (c .1) (a .0) (w .0) (w .1)))
+    let pairs : List ℕ = rangesFrom (c .0) s (c .1) (a .0) .pairs in
+    same {hi = a .0} {delay = b .0} {n = c .0 + 1} {end = w .0} {ys = splice xs 0 pairs} (w .2) (tells s xs pairs (a .0) (b .0) (c .0) (w .0) (a .1) (b .1) (c .1) o (k .0) (a .2) (b .2) (c .2) (walked (c .0) s (c .1) (a .0) (w .0) (w .1)))
   where
     same : {hi delay n end : ℕ} {ys : List ℕ} → record { answer = Frame hi delay n end; slice = ys } ≡ readAck s xs
         → AckTells s (take (2 * n) ys) hi delay n end → AckTells s (take (2 * ranges) (readAck s xs .slice)) l d ranges used

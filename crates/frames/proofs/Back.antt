@@ -82,20 +82,30 @@ immediate-write-read xs used e =
 
 -- ---- ACK
 
+-- one range, and those after it
+range-stands : (pairs s : List ℕ) (at mid to lo hi smallest largest end : ℕ) → lo ≤ hi → largest + 2 ≤ lo
+    → readNumber s at ≡ Value (hi - lo) mid → readNumber s mid ≡ Value (lo - largest - 2) to
+    → rangesFrom (length pairs / 2) s to largest ≡ record { pairs = smallest ∷ largest ∷ pairs; walk = Whole end }
+    → rangesFrom (suc (suc (length pairs)) / 2) s at hi ≡ record { pairs = lo ∷ hi ∷ smallest ∷ largest ∷ pairs; walk = Whole end }
+range-stands pairs s at mid to lo hi smallest largest end h b e g i =
+    let z : hi - (hi - lo) ≡ lo = omega arith in
+    let y : lo - (lo - largest - 2) - 2 ≡ largest = omega arith in
+    let n : suc (suc (length pairs)) / 2 - 1 ≡ length pairs / 2 = omega arith in
+    sym (rw (z, y, n, i) at (more (suc (suc (length pairs)) / 2) s at hi refl e refl (omega arith) (omega arith) g (omega arith)))
+
+last-stands : (s : List ℕ) (at lo hi end : ℕ) → lo ≤ hi → readNumber s at ≡ Value (hi - lo) end → rangesFrom 0 s at hi ≡ record { pairs = lo ∷ hi ∷ []; walk = Whole end }
+last-stands s at lo hi end h e =
+    let z : hi - (hi - lo) ≡ lo = omega arith in
+    sym (rw z at (last 0 s at hi refl e refl (omega arith)))
+
 -- the numbers after the range count give the ranges that they were made of
 ranges-stand : (pairs s : List ℕ) (at lo hi end : ℕ) → lo ≤ hi → RangesBelow lo pairs → Stand s at ((hi - lo) ∷ gapsFrom lo pairs) end
     → rangesFrom (length pairs / 2) s at hi ≡ record { pairs = lo ∷ hi ∷ pairs; walk = Whole end }
 unfolding gapsFrom RangesBelow
-ranges-stand [] s at lo hi end h b (one e none) =
-    let z : hi - (hi - lo) ≡ lo = omega arith in
-    sym (rw z at (last 0 s at hi refl e refl (omega arith)))
+ranges-stand [] s at lo hi end h b (one e none) = last-stands s at lo hi end h e
 ranges-stand (smallest ∷ []) s at lo hi end h b t = absurd b
-ranges-stand (smallest ∷ largest ∷ pairs) s at lo hi end h b (one e (one {mid = to} g t)) =
-    let z : hi - (hi - lo) ≡ lo = omega arith in
-    let y : lo - (lo - largest - 2) - 2 ≡ largest = omega (arith, b .1) in
-    let n : suc (suc (length pairs)) / 2 - 1 ≡ length pairs / 2 = omega arith in
-    let i = ranges-stand pairs s to smallest largest end (b .0) (b .2) t in
-    sym (rw (z, y, n, i) at (more (suc (suc (length pairs)) / 2) s at hi refl e refl (omega arith) (omega arith) g (omega (arith, b .1))))
+ranges-stand (smallest ∷ largest ∷ pairs) s at lo hi end h b (one {mid = mid} e (one {mid = to} g t)) =
+    range-stands pairs s at mid to lo hi smallest largest end h (b .1) e g (ranges-stand pairs s to smallest largest end (b .0) (b .2) t)
 
 -- there are no more ranges than numbers below the first
 few-ranges : (pairs : List ℕ) (lo : ℕ) → RangesBelow lo pairs → length pairs / 2 ≤ lo
