@@ -43,6 +43,14 @@ static lumbixet_answer compare_immediate(const lumbixet_receiver *r)
     return a;
 }
 
+static lumbixet_answer compare_confirm(const lumbixet_receiver *r, uint64_t largest)
+{
+    lumbixet_answer a = archive.confirm(*r, largest);
+    lumbixet_answer b = plain.confirm(*r, largest);
+    check_answer(&a, &b, "confirm");
+    return a;
+}
+
 static lumbixet_answer compare_threshold(const lumbixet_receiver *r, uint64_t sequence, uint64_t threshold,
                                          uint64_t delay, uint64_t reordering)
 {
@@ -82,6 +90,21 @@ static void compare_blocks(const struct traffic *t)
     }
 }
 
+/* A sitting with losses, each ACK confirmed when the next block has come. */
+static void compare_sitting(void)
+{
+    uint64_t state = 1;
+    uint64_t number = 0;
+    lumbixet_receiver record = archive.open(1000, 3, 25, 1000).next;
+    for (size_t k = 0; k < SITTING; k++) {
+        record = compare_packet(&record, next_arrival(&state, &number), sitting_arrival(k), true, false).next;
+        if (k % BLOCK < BLOCK - 1)
+            continue;
+        record = compare_confirm(&record, record.acknowledged - 1).next;
+        record = compare_write(&record, sitting_arrival(k), FRAME_ROOM).next;
+    }
+}
+
 /* A packet that is not ack-eliciting once in so many, and that is marked once in so many. */
 static lumbixet_answer compare_some_packet(const lumbixet_receiver *r, uint64_t number, uint64_t time,
                                            uint64_t once_not_eliciting, uint64_t once_marked)
@@ -108,7 +131,11 @@ static lumbixet_answer compare_any_call(const lumbixet_receiver *r)
     uint64_t up = below(12);
     uint64_t near = r->end + up - below(8);
     uint64_t v[4];
-    switch (below(16)) {
+    switch (below(18)) {
+    case 16:
+        return compare_confirm(r, below(16) ? r->acknowledged - below(4) : any_number());
+    case 17:
+        return compare_confirm(r, r->acknowledged - below(r->acknowledged | 1));
     case 0:
         return compare_timer(r, r->pending_first + r->delay + below(3) - 1);
     case 1:
@@ -222,6 +249,7 @@ static void compare_dense_windows(void)
             record.window[i] = word & draw();
         }
         record.window[15] |= UINT64_C(1) << 63;
+        record.confirmed = room % 2 ? record.end - 1 - below(1100) : 0;
         for (size_t less = 0; less < 4 && less <= room; less++)
             compare_write(&record, acks[ONE_RANGE].time, room - less);
     }
@@ -253,6 +281,7 @@ void compare_receiver(void)
             for (size_t room = 0; room <= 300; room++)
                 compare_write(&acks[kind].records[v], acks[kind].time, room);
     compare_dense_windows();
+    compare_sitting();
     compare_made_up_highest();
     for (size_t i = 0; i < SEQUENCES; i++) {
         compare_sequence();

@@ -44,12 +44,21 @@ static void make_numbers(void)
     }
 }
 
+static void make_frame(struct acks *made, size_t v, uint64_t ranges)
+{
+    lumbixet_wrote wrote = plain_write(made->records[v], made->time, made->frames[v], FRAME_ROOM);
+    made->lengths[v] = wrote.length;
+    uint64_t pairs[128];
+    expect(wrote.result == 0, "an ACK frame");
+    lumbixet_ack ack = plain_read_ack(made->frames[v], wrote.length, pairs, 128);
+    expect(ack.result == 0 && (ranges == 0 || ack.ranges == ranges), "a number of ranges");
+}
+
 /* One gap of 1 to 3 numbers at the start of each of `ranges` equal parts of the window. */
 static void make_acks(struct acks *made, uint64_t ranges, uint64_t seed)
 {
     uint64_t state = seed;
     uint64_t part = 1024 / ranges;
-    made->ranges = ranges;
     made->time = arrival(2 * 1024) + 1000;
     for (size_t v = 0; v < VARIANTS; v++) {
         lumbixet_receiver record = plain_open(1000, 3, 25, 1000).next;
@@ -61,12 +70,44 @@ static void make_acks(struct acks *made, uint64_t ranges, uint64_t seed)
                 record = plain_packet(record, 1000000 * 1024 + n, arrival(n), true, false).next;
         }
         made->records[v] = record;
-        lumbixet_wrote wrote = plain_write(record, made->time, made->frames[v], FRAME_ROOM);
-        made->lengths[v] = wrote.length;
-        uint64_t pairs[128];
-        expect(wrote.result == 0, "an ACK frame");
-        expect(plain_read_ack(made->frames[v], wrote.length, pairs, 128).ranges == ranges, "a number of ranges");
+        make_frame(made, v, ranges);
     }
+}
+
+/* The end of a sitting: an ACK is due to be written after each block, and the one before was confirmed by then or not. */
+static lumbixet_receiver sit(uint64_t seed, bool confirming)
+{
+    uint64_t state = seed;
+    uint64_t number = 0;
+    lumbixet_receiver record = plain_open(1000, 3, 25, 1000).next;
+    uint8_t frame[FRAME_ROOM];
+    for (size_t k = 0; k < SITTING; k++) {
+        uint64_t time = sitting_arrival(k);
+        if (k && k % BLOCK == 0)
+            record = plain_write(record, time, frame, sizeof frame).next;
+        lumbixet_answer answer = plain_packet(record, next_arrival(&state, &number), time, true, false);
+        expect(answer.result == 0, "a packet of a sitting");
+        record = answer.next;
+        if (confirming && k > BLOCK && k % BLOCK == BLOCK - 1)
+            record = plain_confirm(record, record.acknowledged - 1).next;
+    }
+    return record;
+}
+
+static void make_sittings(struct acks *made, bool confirming)
+{
+    made->time = sitting_arrival(SITTING);
+    for (size_t v = 0; v < VARIANTS; v++) {
+        made->records[v] = sit(100 + v, confirming);
+        make_frame(made, v, 0);
+    }
+}
+
+uint64_t next_arrival(uint64_t *state, uint64_t *number)
+{
+    while (pick(state) % 100 < 2)
+        ++*number;
+    return (*number)++;
 }
 
 /* The numbers of a pattern in their order of arrival. */
@@ -74,12 +115,8 @@ static void make_pattern(uint64_t *sent, int pattern)
 {
     uint64_t state = 3;
     uint64_t number = 0;
-    for (size_t k = 0; k < WARM + PACKETS; k++) {
-        while (pattern == LOSS && pick(&state) % 100 < 2)
-            number++;
-        sent[k] = pattern == SWAPPED ? number ^ 1 : number;
-        number++;
-    }
+    for (size_t k = 0; k < WARM + PACKETS; k++)
+        sent[k] = pattern == LOSS ? next_arrival(&state, &number) : pattern == SWAPPED ? k ^ 1 : k;
 }
 
 static void make_traffic(struct traffic *made, int pattern, uint64_t reordering)
@@ -149,6 +186,8 @@ void make_inputs(void)
     make_acks(&acks[ONE_RANGE], 1, 5);
     make_acks(&acks[EIGHT_RANGES], 8, 6);
     make_acks(&acks[SIXTY_FOUR_RANGES], 64, 7);
+    make_sittings(&acks[SITTINGS], false);
+    make_sittings(&acks[CONFIRMED], true);
     for (int pattern = 0; pattern < PATTERNS; pattern++) {
         make_traffic(&traffic[pattern][0], pattern, 1);
         make_traffic(&traffic[pattern][1], pattern, 3);

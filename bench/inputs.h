@@ -14,6 +14,7 @@ enum {
     PACKETS = 4096,
     BLOCK = 32,      /* packets between two writes */
     STEP_US = 100,   /* microseconds between two packets */
+    SITTING = 45000 * BLOCK, /* packets of two hours, one every 5 ms */
     ENTRIES = 50
 };
 
@@ -24,9 +25,8 @@ struct numbers {
     size_t starts[PARTS]; /* where each part starts on the wire */
 };
 
-/* Records with so many ranges in the window, and their ACK frames. */
+/* Records to write ACK frames of, and those frames. */
 struct acks {
-    uint64_t ranges;
     lumbixet_receiver records[VARIANTS];
     uint64_t time;
     uint8_t frames[VARIANTS][FRAME_ROOM];
@@ -47,7 +47,8 @@ struct reports {
     size_t lengths[VARIANTS];
 };
 
-enum { ONE_RANGE, EIGHT_RANGES, SIXTY_FOUR_RANGES, ACK_KINDS };
+/* The last two are the ends of sittings with 2 % loss; in CONFIRMED each ACK was confirmed before the next one. */
+enum { ONE_RANGE, EIGHT_RANGES, SIXTY_FOUR_RANGES, SITTINGS, CONFIRMED, ACK_KINDS };
 enum { IN_ORDER, LOSS, SWAPPED, PATTERNS };
 
 extern struct numbers numbers;
@@ -60,10 +61,19 @@ void make_inputs(void);
 /* The next pseudo-random number (splitmix64). */
 uint64_t pick(uint64_t *state);
 
+/* The next number that arrives on a line where 2 % are lost; `number` is the next one sent. */
+uint64_t next_arrival(uint64_t *state, uint64_t *number);
+
 /* When packet k arrives. */
 static inline uint64_t arrival(size_t k)
 {
     return 1000000 + k * STEP_US;
+}
+
+/* When packet k of a sitting arrives. */
+static inline uint64_t sitting_arrival(size_t k)
+{
+    return 1000000 + k * 5000;
 }
 
 /* Hands the record back and looks at nothing; it has the form of the timer call. */

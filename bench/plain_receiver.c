@@ -21,7 +21,7 @@ static inline bool consistent(const lumbixet_receiver *r)
         return false;
     if ((r->pending_count == 0) != (r->pending_end == 0))
         return false;
-    if (r->cause > (end ? 5 : 0))
+    if (r->cause > (end ? 5 : 0) || r->confirmed > less(end, 1))
         return false;
     if (end && !is_marked(r->window, PLACES - 1))
         return false;
@@ -34,10 +34,16 @@ static inline uint64_t place_of(const lumbixet_receiver *r, uint64_t n)
     return less(n + PLACES, r->end);
 }
 
+/* The larger of the record's own floor and the window's. */
+static inline uint64_t floor_of(const lumbixet_receiver *r)
+{
+    return larger(r->confirmed, less(r->end, PLACES));
+}
+
 /* Whether a number from `from` up to below `to` is missing in the window; *m is then the smallest. */
 static inline bool missing(const lumbixet_receiver *r, uint64_t from, uint64_t to, uint64_t *m)
 {
-    from = larger(from, less(r->end, PLACES));
+    from = larger(from, floor_of(r));
     if (from >= to)
         return false;
     uint64_t last = place_of(r, to);
@@ -67,7 +73,7 @@ static inline uint64_t packet_refusal(const lumbixet_receiver *r, uint64_t numbe
         return LUMBIXET_TOO_LARGE;
     if (number >= r->end)
         return LUMBIXET_ACCEPTED;
-    if (number + PLACES < r->end)
+    if (number < floor_of(r))
         return LUMBIXET_BELOW_WINDOW;
     return is_marked(r->window, place_of(r, number)) ? LUMBIXET_REPEATED : LUMBIXET_ACCEPTED;
 }
@@ -188,6 +194,24 @@ lumbixet_answer plain_immediate(lumbixet_receiver receiver)
     return (lumbixet_answer){result, receiver};
 }
 
+lumbixet_answer plain_confirm(lumbixet_receiver receiver, uint64_t largest)
+{
+    uint64_t result = LUMBIXET_ACCEPTED;
+    if (!consistent(&receiver))
+        result = LUMBIXET_INCONSISTENT;
+    else if (largest > LARGEST)
+        result = LUMBIXET_TOO_LARGE;
+    else if (receiver.end == 0)
+        result = LUMBIXET_NOTHING_YET;
+    else if (largest >= receiver.acknowledged)
+        result = LUMBIXET_NOT_ACKNOWLEDGED;
+    else if (largest + 1 < receiver.end)
+        receiver.confirmed = larger(receiver.confirmed, largest + 1);
+    else
+        receiver.confirmed = largest;
+    return (lumbixet_answer){result, receiver};
+}
+
 /* The fields of an ACK frame behind its range count: the first range, then gap and length pairs. */
 struct ranges {
     uint64_t count; /* of the ranges after the first */
@@ -195,28 +219,30 @@ struct ranges {
     uint16_t pairs[PLACES];
 };
 
-/* Collects as many newest ranges as fit the room beside `bytes` other bytes; false where not even the first does. */
-static inline bool collect(const uint64_t *words, size_t bytes, size_t room, struct ranges *ranges)
+/* Collects as many newest ranges from place `least` up as fit the room beside `bytes` other bytes; false where not even
+ * the first does. A run that goes on below `least` is cut off there. */
+static inline bool collect(const uint64_t *words, uint64_t least, size_t bytes, size_t room, struct ranges *ranges)
 {
-    uint64_t size = run_below(words, PLACES, true);
-    uint64_t low = PLACES - size;
+    uint64_t low = larger(PLACES - run_below(words, PLACES, true), least);
+    uint64_t size = PLACES - low;
     ranges->first = (uint16_t)(size - 1);
     ranges->count = 0;
     bytes += width(size - 1);
     if (room < bytes + 1)
         return false;
-    while (low) {
+    while (low > least) {
         uint64_t gap = run_below(words, low, false);
-        if (gap == low)
+        if (gap >= low - least)
             break;
-        size = run_below(words, low - gap, true);
+        uint64_t next = larger(low - gap - run_below(words, low - gap, true), least);
+        size = low - gap - next;
         bytes += width(gap - 1) + width(size - 1);
         if (room < bytes + width(ranges->count + 1))
             break;
         ranges->pairs[2 * ranges->count] = (uint16_t)(gap - 1);
         ranges->pairs[2 * ranges->count + 1] = (uint16_t)(size - 1);
         ranges->count++;
-        low -= gap + size;
+        low = next;
     }
     return true;
 }
@@ -232,7 +258,8 @@ lumbixet_wrote plain_write(lumbixet_receiver receiver, uint64_t time_us, uint8_t
         result = LUMBIXET_TOO_LARGE;
     else if (receiver.end == 0)
         result = LUMBIXET_NOTHING_YET;
-    else if (!collect(receiver.window, 1 + width(receiver.end - 1) + width(delay), length, &ranges))
+    else if (!collect(receiver.window, place_of(&receiver, receiver.confirmed),
+                      1 + width(receiver.end - 1) + width(delay), length, &ranges))
         result = LUMBIXET_NO_ROOM;
     if (result)
         return (lumbixet_wrote){result, 0, receiver};

@@ -18,6 +18,7 @@ struct side {
     lumbixet_answer (*timer)(lumbixet_receiver, uint64_t);
     lumbixet_answer (*threshold)(lumbixet_receiver, uint64_t, uint64_t, uint64_t, uint64_t);
     lumbixet_answer (*immediate)(lumbixet_receiver);
+    lumbixet_answer (*confirm)(lumbixet_receiver, uint64_t);
     lumbixet_wrote (*write)(lumbixet_receiver, uint64_t, uint8_t *, size_t);
     lumbixet_report (*read_report)(const uint8_t *, size_t);
     lumbixet_entries (*find_entries)(const uint8_t *, size_t);

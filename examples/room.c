@@ -1,5 +1,5 @@
 /* The receiver of one hearing room, told in sentences: `make host` builds and runs it.
- * What it must print stands in room.expected, which was written by hand from document 01. */
+ * What it must print stands in room.expected, which was written by hand from documents 01 and 02. */
 #include <inttypes.h>
 #include <stdio.h>
 #include <stdlib.h>
@@ -122,6 +122,18 @@ static lumbixet_receiver asked(lumbixet_receiver receiver)
     return told(lumbixet_immediate(receiver));
 }
 
+/* The sender acknowledges the packet that carried an ACK: it knows of the numbers up to that ACK's largest. */
+static lumbixet_receiver confirmed(lumbixet_receiver receiver, uint64_t largest)
+{
+    lumbixet_answer answer = lumbixet_confirm(receiver, largest);
+    printf("The packet with the acknowledgment of %" PRIu64 " is itself acknowledged.", largest);
+    if (answer.result == LUMBIXET_ACCEPTED)
+        printf(" Numbers below %" PRIu64 " are reported no more.\n", answer.next.confirmed);
+    else
+        refused(answer.result);
+    return answer.next;
+}
+
 /* Reads a report, and says what became of each object that it has an entry for. */
 static void read_report(const uint8_t *bytes, size_t length)
 {
@@ -201,7 +213,20 @@ int main(void)
     receiver = packet(receiver, 9, 29000, true);
     receiver = acknowledge(receiver, 29000, 4);
     receiver = acknowledge(receiver, 29000, 5);
-    asked(receiver);
+    receiver = asked(receiver);
+    receiver = acknowledge(receiver, 29400, ROOM);
+
+    puts("\nThe sender confirms an acknowledgment");
+    receiver = packet(receiver, 12, 30000, false);
+    receiver = packet(receiver, 13, 31000, false);
+    receiver = acknowledge(receiver, 31000, ROOM);
+    receiver = confirmed(receiver, 9);
+    receiver = acknowledge(receiver, 31500, ROOM);
+    receiver = packet(receiver, 9, 32000, false);
+    receiver = confirmed(receiver, 13);
+    receiver = packet(receiver, 14, 33000, false);
+    receiver = acknowledge(receiver, 33000, ROOM);
+    confirmed(receiver, 15);
 
     puts("\nThe report");
     report();

@@ -17,8 +17,9 @@
  * Machine: x86-64 with the System V calling convention (Linux). The archive asks for memcpy and memset alone;
  * of the compiler C11 or C++11 is assumed.
  * Versions: patch numbers change no declaration. While MAJOR is 0, a new MINOR may add calls, constants
- * and fields, and so change the size of a struct: compile header and archive of one version. Announced are
- * ECN totals and a floor in lumbixet_receiver, and more metrics in lumbixet_header. Numbers keep their meaning.
+ * and fields, and so change the size of a struct: compile header and archive of one version. 0.2 brought
+ * `confirmed` and lumbixet_confirm: a record is 256 bytes since, and one that was kept by 0.1 is opened anew.
+ * Announced are ECN totals in lumbixet_receiver, and more metrics in lumbixet_header. Numbers keep their meaning.
  */
 #ifndef LUMBIXET_H
 #define LUMBIXET_H
@@ -33,10 +34,10 @@ extern "C" {
 
 /* The version of this header and of the archive that goes with it: its parts, one number to compare, and its name. */
 #define LUMBIXET_VERSION_MAJOR 0
-#define LUMBIXET_VERSION_MINOR 1
+#define LUMBIXET_VERSION_MINOR 2
 #define LUMBIXET_VERSION_PATCH 0
 #define LUMBIXET_VERSION (10000 * LUMBIXET_VERSION_MAJOR + 100 * LUMBIXET_VERSION_MINOR + LUMBIXET_VERSION_PATCH)
-#define LUMBIXET_VERSION_TEXT "0.1.0"
+#define LUMBIXET_VERSION_TEXT "0.2.0"
 
 /* The largest number, threshold and time: 2^62 - 1. */
 #define LUMBIXET_LARGEST UINT64_C(4611686018427387903)
@@ -47,7 +48,7 @@ extern "C" {
 #define LUMBIXET_REPORT_ROOM 894   /* bytes of a report with 4 metrics and 50 entries */
 #define LUMBIXET_RANGES_ROOM(bytes) ((bytes) > 5 ? (bytes) - 3 : 2) /* numbers for the ranges of an ACK of so many bytes */
 
-/* What `result` says. */
+/* What `result` says. Numbers between those named here are kept for calls to come. */
 enum {
     LUMBIXET_ACCEPTED = 0,      /* done */
     LUMBIXET_INCONSISTENT = 1,  /* the record handed in is not consistent */
@@ -56,14 +57,15 @@ enum {
     LUMBIXET_DELAY = 4,         /* a delay breaks the delay rule */
     LUMBIXET_TOO_LARGE = 5,     /* a number, threshold or time is above 2^62 - 1, or a signed value outside its range */
     LUMBIXET_REPEATED = 6,      /* the packet number lies in the window and was received */
-    LUMBIXET_BELOW_WINDOW = 7,  /* the packet number lies below the window */
-    LUMBIXET_NOTHING_YET = 8,   /* a write or IMMEDIATE_ACK before anything was received */
+    LUMBIXET_BELOW_WINDOW = 7,  /* the packet number lies below the window, or below what the sender has confirmed */
+    LUMBIXET_NOTHING_YET = 8,   /* a write, IMMEDIATE_ACK or confirmation before anything was received */
     LUMBIXET_NO_ROOM = 9,       /* the smallest permitted output does not fit the lent buffer; for the ACK reader, all ranges */
     LUMBIXET_COUNT_OR_TYPE = 10,/* a report's metric count, metric types or entry count break their rule */
     LUMBIXET_SUM = 11,          /* total differs from received + late + lost */
     LUMBIXET_ENTRY = 12,        /* an entry record breaks its rule */
     LUMBIXET_BYTES_BEHIND = 13, /* bytes remain after a report */
     LUMBIXET_BELOW_ZERO = 14,   /* an ACK range goes below number 0 */
+    LUMBIXET_NOT_ACKNOWLEDGED = 19, /* the confirmed number is above the largest acknowledged, or none is acknowledged */
     LUMBIXET_STALE = 255        /* of lumbixet_threshold alone: an obsolete frame; nothing changed */
 };
 
@@ -165,6 +167,7 @@ typedef struct {
     uint64_t window[16];        /* which of the last 1,024 numbers were received: bit 1023 is the largest */
     uint64_t end;               /* the end of the largest received number */
     uint64_t arrived;           /* when that arrived, in microseconds */
+    uint64_t confirmed;         /* a floor, at most the largest: smaller numbers were confirmed, and are reported no more */
     uint64_t pending_count;     /* ack-eliciting packets since the last written ACK */
     uint64_t pending_end;       /* the end of the largest of their numbers */
     uint64_t pending_first;     /* when the first of them arrived, in microseconds */
@@ -209,6 +212,11 @@ lumbixet_answer lumbixet_threshold(lumbixet_receiver receiver, uint64_t sequence
 
 /* An IMMEDIATE_ACK frame arrives. 1, 8. */
 lumbixet_answer lumbixet_immediate(lumbixet_receiver receiver);
+
+/* A packet of ours that carried an ACK frame is itself acknowledged: `largest` is that frame's largest number. The sender
+ * knows of the numbers up to it, so later ACKs leave them out, gaps among them make no ACK due, and a packet with such a
+ * number is refused with 7. The largest received number itself stays, and the floor never falls. 1, 5, 8, then 19. */
+lumbixet_answer lumbixet_confirm(lumbixet_receiver receiver, uint64_t largest);
 
 /* Writes an ACK frame at the start of the buffer, with as many newest ranges as fit, and its delay in units of 8
  * microseconds (exponent 3). 1, 5, 8, 9. */

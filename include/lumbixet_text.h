@@ -24,6 +24,8 @@ static inline const char *lumbixet_refusal_text(uint64_t result)
         "bytes remain after the report",
         "a range goes below number 0",
     };
+    if (result == LUMBIXET_NOT_ACKNOWLEDGED)
+        return "this number was not acknowledged yet";
     if (result == LUMBIXET_STALE)
         return "the frame is stale";
     return result < sizeof texts / sizeof texts[0] ? texts[result] : "unknown";

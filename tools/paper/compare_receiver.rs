@@ -4,9 +4,9 @@ use crate::archive::*;
 use crate::made_up::{argument, raw, reordering, up_to};
 use crate::numbers::LARGEST;
 use crate::random::Random;
-use crate::receiver::{immediate, open, packet, threshold, timer, write};
+use crate::receiver::{confirm, immediate, open, packet, threshold, timer, write, NOT_DUE, ORDER};
 use crate::record::{Record, WINDOW};
-use crate::refusals::ACCEPTED;
+use crate::refusals::{ACCEPTED, BELOW_WINDOW};
 use crate::tally::{Call, Lent, Tally};
 
 /// All calls on one made-up record.
@@ -20,6 +20,13 @@ pub fn made_up(random: &mut Random, tally: &mut Tally) -> Result<(), String> {
     compare_timer(random, tally, &given, &record)?;
     compare_threshold(random, tally, &given, &record)?;
     compare_immediate(tally, &given, &record)?;
+    let but_for_the_floor = !record.consistent() && Record { confirmed: 0, ..record.clone() }.consistent();
+    tally.note("1 for nothing but a floor above L", but_for_the_floor && record.largest.is_some());
+    tally.note("1 for nothing but a floor while nothing was received", but_for_the_floor && record.largest.is_none());
+    let confirmed = compare_confirm(random, tally, &given, &record)?;
+    if confirmed != given && random.chance(50) {
+        write_at_every_room(random, tally, &confirmed)?;
+    }
     Ok(())
 }
 
@@ -28,11 +35,12 @@ pub fn grown(random: &mut Random, tally: &mut Tally) -> Result<(), String> {
     let mut given = compare_open(random, tally)?;
     for _ in 0..random.between(1, 120) {
         let record = record_of(&given);
-        given = match random.below(20) {
+        given = match random.below(22) {
             0..=13 => compare_packet(random, tally, &given, &record)?,
             14 => compare_timer(random, tally, &given, &record)?,
             15 => compare_threshold(random, tally, &given, &record)?,
             16 => compare_immediate(tally, &given, &record)?,
+            17 | 18 => compare_confirm(random, tally, &given, &record)?,
             _ => compare_write(random, tally, &given, &record)?,
         };
     }
@@ -99,6 +107,15 @@ fn compare_packet(random: &mut Random, tally: &mut Tally, given: &Receiver, reco
     let call = Call { name: "packet", result: papers.result, given: &(number, time, eliciting, marked, given) };
     tally.compare(call, papers, archive)?;
     tally.note_cause(&archive);
+    let below = papers.result == BELOW_WINDOW;
+    tally.note("7 though it was received and lies within 1,024 of L", below && record.received.contains(&number));
+    let by_window = below && record.confirmed < record.window_floor() && number < record.window_floor();
+    tally.note("7 below the window's own floor, which is the larger", by_window);
+    if papers.result == ACCEPTED && papers.next.cause == NOT_DUE && record.confirmed > record.window_floor() {
+        let unconfirmed = Record { confirmed: 0, ..record.clone() };
+        let cause = packet(unconfirmed, number, time, eliciting, marked).1.cause;
+        tally.note("nothing due, where a gap below the record's floor would be", cause == ORDER);
+    }
     Ok(archive.next)
 }
 
@@ -133,6 +150,48 @@ fn compare_immediate(tally: &mut Tally, given: &Receiver, record: &Record) -> Re
     Ok(archive.next)
 }
 
+/// Numbers around A, L and both floors; now and then any.
+fn confirmed_number(random: &mut Random, record: &Record) -> u64 {
+    let acknowledged = record.acknowledged.unwrap_or(0);
+    let near = |random: &mut Random, number: u64| number.saturating_sub(2).saturating_add(random.below(4));
+    match random.below(10) {
+        0 => argument(random),
+        1 => near(random, record.largest.unwrap_or(0)),
+        2 => near(random, record.confirmed),
+        3 => near(random, record.window_floor()),
+        4 => up_to(random, acknowledged),
+        5 | 6 => acknowledged.saturating_sub(random.below(WINDOW)),
+        7 => acknowledged,
+        _ => near(random, acknowledged),
+    }
+}
+
+fn compare_confirm(random: &mut Random, tally: &mut Tally, given: &Receiver, record: &Record) -> Result<Receiver, String> {
+    let k = confirmed_number(random, record);
+    let papers = wanted(given, confirm(record.clone(), k));
+    let archive = unsafe { lumbixet_confirm(*given, k) };
+    tally.compare(Call { name: "confirm", result: papers.result, given: &(k, given) }, papers, archive)?;
+    if papers.result == ACCEPTED {
+        let (before, after) = (given.confirmed, papers.next.confirmed);
+        tally.note("a confirmation that raises the floor to k + 1", before < after && after == k + 1);
+        tally.note("a confirmation of L, which leaves L alone", before < after && record.largest == Some(k));
+        tally.note("a confirmation of an earlier number, after which the floor stays", before == after && k + 1 < before);
+    }
+    Ok(archive.next)
+}
+
+/// From no room to room for all ranges and more; each write goes on from the same record.
+fn write_at_every_room(random: &mut Random, tally: &mut Tally, given: &Receiver) -> Result<(), String> {
+    let record = record_of(given);
+    let time = time(random, &record).min(LARGEST);
+    let (_, all, _) = write(record.clone(), time, &mut [0; 1200]);
+    for length in 0..all + 3 {
+        compare_write_in(random, tally, given, &record, time, length)?;
+    }
+    tally.note("an ACK at every room after a confirmation", true);
+    Ok(())
+}
+
 /// Room for nothing, for the first range, for all ranges, or for some of them.
 fn room(random: &mut Random, record: &Record) -> usize {
     let all = 30 + 2 * record.ranges().len() as u64;
@@ -147,6 +206,17 @@ fn room(random: &mut Random, record: &Record) -> usize {
 fn compare_write(random: &mut Random, tally: &mut Tally, given: &Receiver, record: &Record) -> Result<Receiver, String> {
     let time = time(random, record);
     let length = room(random, record);
+    compare_write_in(random, tally, given, record, time, length)
+}
+
+fn compare_write_in(
+    random: &mut Random,
+    tally: &mut Tally,
+    given: &Receiver,
+    record: &Record,
+    time: u64,
+    length: usize,
+) -> Result<Receiver, String> {
     let mut papers_lent = Lent::new(random, length);
     let mut archive_lent = Lent { memory: papers_lent.memory.clone(), length };
     let (result, used, next) = write(record.clone(), time, papers_lent.buffer());
@@ -155,5 +225,7 @@ fn compare_write(random: &mut Random, tally: &mut Tally, given: &Receiver, recor
     let archive = unsafe { lumbixet_write(*given, time, archive_lent.buffer().as_mut_ptr(), length) };
     let call = Call { name: "write", result, given: &(time, length, given) };
     tally.compare(call, (papers, papers_lent.memory), (archive, archive_lent.memory))?;
+    let left_out = result == ACCEPTED && record.received.range(..record.confirmed).next().is_some();
+    tally.note("an ACK without numbers that the record's floor leaves out", left_out);
     Ok(archive.next)
 }

@@ -2,9 +2,9 @@
 
 use crate::example_lines::{hex, Examples};
 use crate::numbers::LARGEST;
-use crate::receiver::{immediate, open, packet, threshold, timer, write, NOT_DUE, ORDER};
+use crate::receiver::{confirm, immediate, open, packet, threshold, timer, write, NOT_DUE, ORDER};
 use crate::record::Record;
-use crate::refusals::STALE;
+use crate::refusals::{NOT_ACKNOWLEDGED, STALE};
 
 pub fn check(examples: &mut Examples) {
     orders(examples);
@@ -12,6 +12,8 @@ pub fn check(examples: &mut Examples) {
     windows(examples);
     delays(examples);
     calls(examples);
+    confirmations(examples);
+    confirmed_gaps(examples);
 }
 
 /// Arrivals at time 0, all ack-eliciting, "written when due": the numbers at which one was due.
@@ -120,4 +122,66 @@ fn calls(examples: &mut Examples) {
     let agreed = threshold(marked, 0, 2, 25_000, 3).1;
     examples.check("after the first accepted frame it does not", in_a_run(agreed), 0);
     examples.check("order comes before congestion", packet(received(&[0]), 4, 0, true, true).1.cause, ORDER);
+}
+
+/// The bytes of an ACK in a room that holds it.
+fn ack_of(record: &Record) -> Vec<u8> {
+    let mut buffer = [0; 64];
+    let (_, length, _) = write(record.clone(), 0, &mut buffer);
+    buffer[..length].to_vec()
+}
+
+/// Document 02, No. 12.
+fn confirmations(examples: &mut Examples) {
+    let empty = open(1000, 3, 25, 1000).1;
+    examples.check("a confirmation before the first packet gives 8", confirm(empty.clone(), 0), (8, empty.clone()));
+    examples.check("of 2^62 it gives 5, before 8", confirm(empty.clone(), LARGEST + 1), (5, empty));
+    let unwritten = received(&[0, 1, 3, 4, 5]);
+    examples.check("A absent gives 19", confirm(unwritten.clone(), 0), (NOT_ACKNOWLEDGED, unwritten.clone()));
+    let written = write(unwritten, 0, &mut [0; 64]).2;
+    let later = packet(written, 7, 0, true, false).1;
+    examples.check("6, above A and below L, gives 19", confirm(later.clone(), 6), (NOT_ACKNOWLEDGED, later.clone()));
+    for (k, floor, bytes) in
+        [(0, 1, "02 07 00 02 00 00 02 00 00"), (1, 2, "02 07 00 01 00 00 02"), (3, 4, "02 07 00 01 00 00 01")]
+    {
+        let (result, next) = confirm(later.clone(), k);
+        examples.check(&format!("{k} confirmed: the floor is {floor}"), (result, next.confirmed), (0, floor));
+        examples.check("  and the ACK goes down to it", ack_of(&next), hex(bytes));
+    }
+    let confirmed = confirm(later.clone(), 5).1;
+    examples.check("5, which is A, confirmed: the floor is 6", confirmed.confirmed, 6);
+    examples.check("  and the ACK has the range of 7 alone", ack_of(&confirmed), hex("02 07 00 00 00"));
+    examples.check("  3 gives 7 though it was received", packet(confirmed.clone(), 3, 0, true, false), (7, confirmed.clone()));
+    examples.check("  2, which was missing, gives 7 too", packet(confirmed.clone(), 2, 0, true, false), (7, confirmed.clone()));
+    examples.check("  6 is accepted", packet(confirmed.clone(), 6, 0, true, false).0, 0);
+    examples.check("  a smaller number leaves the floor", confirm(confirmed.clone(), 2), (0, confirmed));
+    let all = write(later, 0, &mut [0; 64]).2;
+    let alone = confirm(all, 7).1;
+    examples.check("7, which is L, confirmed: the floor is 7", alone.confirmed, 7);
+    examples.check("  and the ACK still has 7", ack_of(&alone), hex("02 07 00 00 00"));
+    examples.check("  7 gives 6", packet(alone.clone(), 7, 0, true, false).0, 6);
+    let mut above = alone.clone();
+    above.confirmed = 8;
+    examples.check("a floor above L gives 1", confirm(above.clone(), 7), (1, above));
+    let far = packet(alone, 2000, 0, true, false).1;
+    examples.check("at L 2,000 the window's own floor is the larger", (far.confirmed, far.floor()), (7, 977));
+    examples.check("  976 gives 7", packet(far.clone(), 976, 0, true, false).0, 7);
+    examples.check("  977 is accepted", packet(far, 977, 0, true, false).0, 0);
+    let mut unreceived = open(1, 1, 25, 1000).1;
+    unreceived.confirmed = 1;
+    examples.check("a floor while nothing was received gives 1", timer(unreceived.clone(), 0), (1, unreceived));
+}
+
+/// "the larger of it and the window's own floor is used for .. missing numbers"
+fn confirmed_gaps(examples: &mut Examples) {
+    let three = write(received(&[0, 1, 3]), 0, &mut [0; 64]).2;
+    let then = |record: Record| [4, 5].iter().fold(record, |record, number| packet(record, *number, 0, true, false).1).cause;
+    examples.check("R 3, 2 missing, 3 acknowledged: 5 is due", then(three.clone()), ORDER);
+    examples.check("  with 3 confirmed it is not", then(confirm(three.clone(), 3).1), NOT_DUE);
+    examples.check("  with 1 confirmed it is: 2 is the floor", then(confirm(three, 1).1), ORDER);
+    let first = packet(open(1000, 1, 25, 1000).1, 0, 0, true, false).1;
+    let quiet = write(packet(first, 5, 0, false, false).1, 0, &mut [0; 64]).2;
+    examples.check("R 1, 0 and 5, which is not ack-eliciting: 6 is due", packet(quiet.clone(), 6, 0, true, false).1.cause, ORDER);
+    let confirmed = confirm(quiet, 5).1;
+    examples.check("  with 5 confirmed it is not", packet(confirmed, 6, 0, true, false).1.cause, NOT_DUE);
 }

@@ -46,6 +46,7 @@ pub fn consistent(random: &mut Random) -> Record {
         largest,
         arrived: up_to(random, LARGEST),
         received: largest.map_or(BTreeSet::new(), |largest| marks(random, largest)),
+        confirmed: largest.map_or(0, |largest| confirmed(random, largest)),
         strays: false,
         acknowledged,
         highest,
@@ -68,6 +69,18 @@ fn largest(random: &mut Random) -> u64 {
         return random.below(3000);
     }
     up_to(random, LARGEST)
+}
+
+/// A floor at most L: none, at L or near it, in the window with marks below it, at the window's own floor, or anywhere.
+fn confirmed(random: &mut Random, largest: u64) -> u64 {
+    let below = match random.below(6) {
+        0 | 1 => return 0,
+        2 => random.below(4),
+        3 => random.below(WINDOW),
+        4 => random.between(WINDOW - 3, WINDOW + 3),
+        _ => return up_to(random, largest),
+    };
+    largest.saturating_sub(below)
 }
 
 /// Which numbers of the window were received: all, nearly all, runs, every other one, few; L always.
@@ -111,6 +124,7 @@ fn any_bytes(random: &mut Random) -> Receiver {
     let fields = [
         &mut raw.end,
         &mut raw.arrived,
+        &mut raw.confirmed,
         &mut raw.pending_count,
         &mut raw.pending_end,
         &mut raw.pending_first,
@@ -136,7 +150,7 @@ fn break_one_clause(random: &mut Random, raw: &mut Receiver) {
     let above = random.one_of(&[LARGEST + 1, LARGEST + 2, u64::MAX]);
     let above_end = random.one_of(&[LARGEST + 2, LARGEST + 3, u64::MAX]);
     let past = raw.end + random.between(1, 3);
-    match random.below(25) {
+    match random.below(27) {
         0 => raw.arrived = above,
         1 => raw.pending_first = above,
         2 => raw.threshold = above,
@@ -161,6 +175,9 @@ fn break_one_clause(random: &mut Random, raw: &mut Receiver) {
         21 => raw.window = [0; 16],
         22 => only_a_cause(random, raw),
         23 => raw.end = raw.end / 2 + random.below(2),
+        // L is the end less one: the first of these is one above L
+        24 => raw.confirmed = raw.end.saturating_add(random.below(3)),
+        25 => raw.confirmed = random.one_of(&[above, above_end]),
         _ => raw.cause = random.below(6),
     }
 }
@@ -176,17 +193,19 @@ fn mark_below_zero(random: &mut Random, raw: &mut Receiver) {
     raw.window[word] |= mask;
     (raw.acknowledged, raw.highest) = (raw.acknowledged.min(raw.end), raw.highest.min(raw.end));
     raw.pending_end = raw.pending_end.min(raw.end);
+    raw.confirmed = raw.confirmed.min(raw.end.saturating_sub(1));
 }
 
 /// Nothing was received, and one thing says otherwise.
 fn only_a_cause(random: &mut Random, raw: &mut Receiver) {
     (raw.end, raw.window, raw.acknowledged, raw.highest) = (0, [0; 16], 0, 0);
-    (raw.pending_end, raw.pending_count, raw.cause) = (0, 0, 0);
-    match random.below(5) {
+    (raw.pending_end, raw.pending_count, raw.cause, raw.confirmed) = (0, 0, 0, 0);
+    match random.below(6) {
         0 => raw.cause = 1 + random.below(5),
         1 => raw.acknowledged = 1,
         2 => raw.highest = 1,
         3 => (raw.pending_end, raw.pending_count) = (1, 1),
+        4 => raw.confirmed = 1,
         _ => raw.window[random.below(16) as usize] = 1 << random.below(64),
     }
 }

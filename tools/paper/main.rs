@@ -1,5 +1,5 @@
-//! A second implementation of document 01, written from the papers alone, in plain sets and numbers, to be compared with
-//! the proved one.
+//! A second implementation of document 01 and of the requests of document 02 that have landed, written from the papers alone,
+//! in plain sets and numbers, to be compared with the proved one.
 //!
 //!     rustc -O --edition 2021 -o paper tools/paper/main.rs
 //!     rustc -O --edition 2021 --cfg archive -L target/lib -o paper tools/paper/main.rs

@@ -1,4 +1,5 @@
-//! Document 01, "The receiver record": the calls. Each takes the record by value and hands the next one back.
+//! Document 01, "The receiver record", and document 02, No. 12: the calls. Each takes the record by value and hands the next
+//! one back.
 
 use crate::frames::ack_that_fits;
 use crate::numbers::{judge_numbers, LARGEST};
@@ -56,6 +57,7 @@ fn opened(threshold: u64, reordering: u64, maximum_ms: u64, minimum_us: u64) -> 
         largest: None,
         arrived: 0,
         received: BTreeSet::new(),
+        confirmed: 0,
         strays: false,
         acknowledged: None,
         highest: None,
@@ -113,12 +115,13 @@ fn mark(record: &mut Record, number: u64, time: u64) {
     if record.largest.map_or(true, |largest| number > largest) {
         record.largest = Some(number);
         record.arrived = time;
-        forget_below_floor(record);
+        forget_below_window(record);
     }
 }
 
-fn forget_below_floor(record: &mut Record) {
-    let floor = record.floor();
+/// Marks leave with the window alone: those between its floor and the record's own stay, and mean nothing.
+fn forget_below_window(record: &mut Record) {
+    let floor = record.window_floor();
     while let Some(oldest) = record.received.iter().next().copied().filter(|oldest| *oldest < floor) {
         record.received.remove(&oldest);
     }
@@ -230,7 +233,7 @@ pub fn threshold(record: Record, sequence: u64, threshold: u64, delay_us: u64, r
 }
 
 /// "Write (time, room) emits an ACK with largest L, delay one eighth (rounded down) of the microseconds since L arrived, and
-/// as many newest ranges of the window as fit". Gives the frame's length too; "Bytes after the frame stay."
+/// as many newest ranges of the window as fit", from the floor up. Gives the frame's length too; "Bytes after the frame stay."
 pub fn write(record: Record, time: u64, buffer: &mut [u8]) -> (u64, usize, Record) {
     let frame = judge(&record, &[time]).and_then(|()| judge_received(&record)).and_then(|()| {
         let delay = time.saturating_sub(record.arrived) / 8;
@@ -248,4 +251,19 @@ pub fn write(record: Record, time: u64, buffer: &mut [u8]) -> (u64, usize, Recor
         next.cause = NOT_DUE;
     });
     (result, length, next)
+}
+
+/// "When a packet that carried our ACK with largest k is itself confirmed" (document 02, No. 12). "Refusals: 1, 5, 8 for this
+/// call too, then 19 if k is above A or A is absent."
+pub fn confirm(record: Record, k: u64) -> Answer {
+    let judged = judge(&record, &[k]).and_then(|()| judge_received(&record)).and_then(|()| match record.acknowledged {
+        Some(acknowledged) if k <= acknowledged => Ok(()),
+        _ => Err(NOT_ACKNOWLEDGED),
+    });
+    answer(record, judged, |next| {
+        // "a floor that rises to k + 1, or to L where k is L"
+        let risen = if next.largest == Some(k) { k } else { k + 1 };
+        // "The floor never falls."
+        next.confirmed = next.confirmed.max(risen);
+    })
 }

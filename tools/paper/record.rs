@@ -1,4 +1,5 @@
-//! Document 01, "The receiver record": what the record knows, and when it is consistent.
+//! Document 01, "The receiver record": what the record knows, and when it is consistent. The floor that the sender's
+//! confirmations raise is document 02, No. 12.
 
 use crate::numbers::LARGEST;
 use std::collections::BTreeSet;
@@ -18,6 +19,8 @@ pub struct Record {
     pub arrived: u64,
     /// Which numbers "from the floor, the larger of 0 and L - 1,023, up to L" were received.
     pub received: BTreeSet<u64>,
+    /// "The record gets a floor" (document 02, No. 12). What is marked below it means nothing.
+    pub confirmed: u64,
     /// A made-up record can mark places of the window below number 0, or places while nothing was received. No call does.
     pub strays: bool,
     /// "the largest acknowledged A"
@@ -59,12 +62,17 @@ pub fn delay_obeys(delay_us: u64, minimum_us: u64) -> bool {
 }
 
 impl Record {
-    /// "the floor, the larger of 0 and L - 1,023"
-    pub fn floor(&self) -> u64 {
+    /// "the window's own floor": "the larger of 0 and L - 1,023"
+    pub fn window_floor(&self) -> u64 {
         self.largest.map_or(0, |largest| largest.saturating_sub(WINDOW - 1))
     }
 
-    /// The smallest number from one up to but not another that was not received; "sought only in the window".
+    /// "the larger of it and the window's own floor is used for ranges, missing numbers and refusal 7" (document 02, No. 12)
+    pub fn floor(&self) -> u64 {
+        self.confirmed.max(self.window_floor())
+    }
+
+    /// The smallest number from one up to but not another that was not received; "sought only in the window", from the floor.
     pub fn first_missing(&self, from: u64, to: u64) -> Option<u64> {
         let mut wanted = from.max(self.floor());
         if wanted >= to {
@@ -79,10 +87,10 @@ impl Record {
         Some(wanted).filter(|missing| *missing < to)
     }
 
-    /// The window's ranges of received numbers, smallest and largest of each, newest first.
+    /// The ranges of received numbers from the floor up, smallest and largest of each, newest first.
     pub fn ranges(&self) -> Vec<(u64, u64)> {
         let mut ranges: Vec<(u64, u64)> = Vec::new();
-        for number in self.received.iter().rev() {
+        for number in self.received.range(self.floor()..).rev() {
             match ranges.last_mut() {
                 Some((smallest, _)) if *smallest == *number + 1 => *smallest = *number,
                 _ => ranges.push((*number, *number)),
@@ -103,6 +111,7 @@ impl Record {
             && self.cause <= 5
             && self.ends_agree()
             && self.marks_agree()
+            && self.floor_agrees()
     }
 
     /// "every number and time obeys 5"
@@ -127,5 +136,10 @@ impl Record {
     /// "L's own place is marked and none below number 0; if nothing was received, no place is marked"
     fn marks_agree(&self) -> bool {
         !self.strays && self.received.iter().next_back().copied() == self.largest
+    }
+
+    /// "the floor is at most L, and 0 while nothing was received" (document 02, No. 12)
+    fn floor_agrees(&self) -> bool {
+        self.confirmed <= self.largest.unwrap_or(0)
     }
 }

@@ -1,4 +1,4 @@
-//! The refusal numbers of document 01, "Refusal numbers": each line is the paper's own.
+//! The refusal numbers of document 01, "Refusal numbers", and of document 02: each line is the paper's own.
 
 /// What a call gives that is not refused.
 pub const ACCEPTED: u64 = 0;
@@ -14,9 +14,9 @@ pub const DELAY: u64 = 4;
 pub const TOO_LARGE: u64 = 5;
 /// "the packet number lies in the window and was received"
 pub const REPEATED: u64 = 6;
-/// "the packet number lies below the window"
+/// "the packet number lies below the window"; by document 02, No. 12, below the larger of the two floors.
 pub const BELOW_WINDOW: u64 = 7;
-/// "a write or IMMEDIATE_ACK call comes and nothing has been received yet"
+/// "a write or IMMEDIATE_ACK call comes and nothing has been received yet"; "for this call too" (document 02, No. 12).
 pub const NOTHING_YET: u64 = 8;
 /// "the smallest permitted output does not fit the room, the lent buffer's length; for the ACK reader, all the frame's ranges"
 pub const NO_ROOM: u64 = 9;
@@ -30,5 +30,7 @@ pub const ENTRY: u64 = 12;
 pub const BYTES_BEHIND: u64 = 13;
 /// "an ACK range goes below number 0"
 pub const BELOW_ZERO: u64 = 14;
+/// "k is above A or A is absent" (document 02, No. 12)
+pub const NOT_ACKNOWLEDGED: u64 = 19;
 /// "it answers 'stale', and nothing changes": no refusal; a number that no refusal has.
 pub const STALE: u64 = 255;

@@ -7,13 +7,14 @@ use std::collections::BTreeMap;
 use std::fmt::Debug;
 
 /// Each call with every result that it can give.
-const CAN_GIVE: [(&str, &[u64]); 17] = [
+const CAN_GIVE: [(&str, &[u64]); 18] = [
     ("open", &[0, 5, 4]),
     ("packet", &[0, 1, 5, 6, 7]),
     ("timer", &[0, 1, 5]),
     ("threshold", &[0, 1, 5, 4, 255]),
     ("immediate", &[0, 1, 8]),
     ("write", &[0, 1, 5, 8, 9]),
+    ("confirm", &[0, 1, 5, 8, 19]),
     ("read_number", &[0, 2]),
     ("put_number", &[0, 5, 9]),
     ("read_frequency", &[0, 2, 3]),
@@ -27,11 +28,26 @@ const CAN_GIVE: [(&str, &[u64]); 17] = [
     ("write_report", &[0, 5, 11, 10, 12, 9]),
 ];
 
-/// How often each call gave each result, and each receiver call left each cause.
+/// What must have happened in accepted and refused calls beyond their results.
+const MOMENTS: [&str; 10] = [
+    "1 for nothing but a floor above L",
+    "1 for nothing but a floor while nothing was received",
+    "7 though it was received and lies within 1,024 of L",
+    "7 below the window's own floor, which is the larger",
+    "a confirmation that raises the floor to k + 1",
+    "a confirmation of L, which leaves L alone",
+    "a confirmation of an earlier number, after which the floor stays",
+    "an ACK without numbers that the record's floor leaves out",
+    "an ACK at every room after a confirmation",
+    "nothing due, where a gap below the record's floor would be",
+];
+
+/// How often each call gave each result, each receiver call left each cause, and each moment came.
 #[derive(Default)]
 pub struct Tally {
     results: BTreeMap<(&'static str, u64), usize>,
     causes: BTreeMap<u64, usize>,
+    moments: BTreeMap<&'static str, usize>,
 }
 
 /// One call: what it was given, what the papers answer and what the archive answered.
@@ -61,6 +77,14 @@ impl Tally {
         }
     }
 
+    /// Counts a moment of the list, where it is one.
+    pub fn note(&mut self, moment: &'static str, is_one: bool) {
+        assert!(MOMENTS.contains(&moment), "no moment of the list: {moment}");
+        if is_one {
+            *self.moments.entry(moment).or_default() += 1;
+        }
+    }
+
     pub fn print(&self) {
         println!("{} calls agree", self.results.values().sum::<usize>());
         for (name, _) in CAN_GIVE {
@@ -70,6 +94,9 @@ impl Tally {
         }
         let counts: Vec<String> = self.causes.iter().map(|(cause, count)| format!("{cause}: {count}")).collect();
         println!("{:>16}  {}", "cause after", counts.join(", "));
+        for (moment, count) in &self.moments {
+            println!("{count:>16}  {moment}");
+        }
     }
 
     /// A comparison that never saw a result says nothing about it.
@@ -78,6 +105,7 @@ impl Tally {
         let mut missing: Vec<String> =
             expected.filter(|key| !self.results.contains_key(key)).map(|(name, result)| format!("{name} {result}")).collect();
         missing.extend((0..=5).filter(|cause| !self.causes.contains_key(cause)).map(|cause| format!("cause {cause}")));
+        missing.extend(MOMENTS.iter().filter(|moment| !self.moments.contains_key(*moment)).map(|moment| moment.to_string()));
         if missing.is_empty() {
             return Ok(());
         }

@@ -11,6 +11,8 @@ pub struct Receiver {
     pub end: u64,
     /// When that arrived, in microseconds.
     pub arrived: u64,
+    /// The floor that confirmations raised: smaller numbers are reported no more.
+    pub confirmed: u64,
     /// Ack-eliciting packets since the last written ACK.
     pub pending_count: u64,
     /// The end of the largest of their numbers.
@@ -190,6 +192,7 @@ extern "C" {
     pub fn lumbixet_timer(receiver: Receiver, time_us: u64) -> Answer;
     pub fn lumbixet_threshold(receiver: Receiver, sequence: u64, threshold: u64, delay_us: u64, reordering: u64) -> Answer;
     pub fn lumbixet_immediate(receiver: Receiver) -> Answer;
+    pub fn lumbixet_confirm(receiver: Receiver, largest: u64) -> Answer;
     pub fn lumbixet_write(receiver: Receiver, time_us: u64, buffer: *mut u8, length: usize) -> Wrote;
     pub fn lumbixet_read_report(bytes: *const u8, length: usize) -> Report;
     pub fn lumbixet_find_entries(bytes: *const u8, length: usize) -> Entries;

@@ -84,6 +84,15 @@ impl Receiver {
         self.take(answer).map(|_| Heard::Changed)
     }
 
+    /// A packet of ours that carried an ACK frame is itself acknowledged: `largest` is that frame's largest number. Numbers
+    /// up to it are reported no more, but for the largest received one. It makes nothing due, and no cause is taken away.
+    ///
+    /// # Errors
+    /// [`Refusal::Inconsistent`], [`Refusal::TooLarge`], [`Refusal::NothingYet`], then [`Refusal::NotAcknowledged`].
+    pub fn confirm(&mut self, largest: u64) -> Result<(), Refusal> {
+        self.take(unsafe { raw::lumbixet_confirm(self.record, largest) }).map(|_| ())
+    }
+
     /// Writes an ACK frame at the start of the buffer, with as many newest ranges as fit, and gives the frame's bytes.
     /// It may be written whether one is due or not. [`ACK_ROOM`](crate::ACK_ROOM) bytes hold all ranges.
     ///
@@ -108,6 +117,13 @@ impl Receiver {
     pub fn wake(&self) -> Option<Micros> {
         let waiting = self.record.pending_count > 0 && self.record.cause == 0;
         waiting.then(|| Micros(self.record.pending_first.saturating_add(self.record.delay)))
+    }
+
+    /// The floor that confirmations raised: smaller numbers are reported no more, and refused with
+    /// [`Refusal::BelowWindow`].
+    #[must_use]
+    pub fn confirmed(&self) -> u64 {
+        self.record.confirmed
     }
 
     /// The ack-eliciting threshold in force.

@@ -18,9 +18,9 @@ pub enum Refusal {
     TooLarge,
     /// 6: the packet number lies in the window and was received.
     Repeated,
-    /// 7: the packet number lies below the window.
+    /// 7: the packet number lies below the window, or below what the sender has confirmed.
     BelowWindow,
-    /// 8: a write or IMMEDIATE_ACK comes before anything was received.
+    /// 8: a write, IMMEDIATE_ACK or confirmation comes before anything was received.
     NothingYet,
     /// 9: the smallest permitted output does not fit the lent slice; for the ACK reader, all the frame's ranges.
     NoRoom,
@@ -34,52 +34,55 @@ pub enum Refusal {
     BytesBehind,
     /// 14: an ACK range goes below number 0.
     BelowZero,
+    /// 19: the confirmed number is above the largest acknowledged, or none is acknowledged.
+    NotAcknowledged,
     /// A number that this version does not name; the archive that goes with it gives none.
     Unknown(u64),
 }
 
 use Refusal::*;
 
-/// In the order of their numbers, from 1 on.
-const REFUSALS: [(Refusal, &str); 14] = [
-    (Inconsistent, "the record is not consistent"),
-    (Ends, "the bytes end inside a field"),
-    (OtherType, "the frame type is another one"),
-    (Delay, "a delay breaks the delay rule"),
-    (TooLarge, "a number is too large"),
-    (Repeated, "this packet was received before"),
-    (BelowWindow, "this packet lies below the window"),
-    (NothingYet, "nothing has been received yet"),
-    (NoRoom, "the output does not fit the room"),
-    (CountOrType, "a metric count, metric type or entry count breaks its rule"),
-    (Sum, "the total differs from its parts"),
-    (Entry, "an entry breaks its rule"),
-    (BytesBehind, "bytes remain after the report"),
-    (BelowZero, "a range goes below number 0"),
+/// Each with its number and its words.
+const REFUSALS: [(u64, Refusal, &str); 15] = [
+    (1, Inconsistent, "the record is not consistent"),
+    (2, Ends, "the bytes end inside a field"),
+    (3, OtherType, "the frame type is another one"),
+    (4, Delay, "a delay breaks the delay rule"),
+    (5, TooLarge, "a number is too large"),
+    (6, Repeated, "this packet was received before"),
+    (7, BelowWindow, "this packet lies below the window"),
+    (8, NothingYet, "nothing has been received yet"),
+    (9, NoRoom, "the output does not fit the room"),
+    (10, CountOrType, "a metric count, metric type or entry count breaks its rule"),
+    (11, Sum, "the total differs from its parts"),
+    (12, Entry, "an entry breaks its rule"),
+    (13, BytesBehind, "bytes remain after the report"),
+    (14, BelowZero, "a range goes below number 0"),
+    (19, NotAcknowledged, "this number was not acknowledged yet"),
 ];
 
 impl Refusal {
     /// The refusal of a number, as a log has it.
     #[must_use]
     pub fn from_number(number: u64) -> Refusal {
-        let named = REFUSALS.iter().zip(1..).find(|(_, own)| *own == number);
-        named.map_or(Unknown(number), |((refusal, _), _)| *refusal)
+        let named = REFUSALS.iter().find(|(own, _, _)| *own == number);
+        named.map_or(Unknown(number), |(_, refusal, _)| *refusal)
     }
 
-    /// The number of document 01, from 1 to 14.
+    /// The number that documents 01 and 02 give it.
     #[must_use]
     pub fn number(self) -> u64 {
         match self {
             Unknown(number) => number,
-            named => REFUSALS.iter().zip(1..).find(|((refusal, _), _)| *refusal == named).map_or(0, |(_, own)| own),
+            named => REFUSALS.iter().find(|(_, refusal, _)| *refusal == named).map_or(0, |(own, _, _)| *own),
         }
     }
 }
 
 impl fmt::Display for Refusal {
     fn fmt(&self, f: &mut fmt::Formatter<'_>) -> fmt::Result {
-        let named = REFUSALS.iter().find(|(refusal, _)| refusal == self);
-        f.write_str(named.map_or("unknown", |(_, text)| text))
+        let named = REFUSALS.iter().find(|(_, refusal, _)| refusal == self);
+        f.write_str(named.map_or("unknown", |(_, _, text)| text))
     }
 }
 

@@ -10,6 +10,7 @@ const HEADERS: &str = concat!(include_str!("../../../include/lumbixet.h"), inclu
 fn empty_slices() {
     let mut receiver = Receiver::default();
     assert_eq!(receiver.write(Micros(0), &mut []), Err(Refusal::NothingYet));
+    assert_eq!(receiver.confirm(0), Err(Refusal::NothingYet));
     assert_eq!(receiver.packet(Packet { number: 0, time: Micros(0), eliciting: true, marked: false }), Ok(None));
     assert_eq!(receiver.write(Micros(0), &mut []), Err(Refusal::NoRoom));
     assert_eq!(read_number(&[]), Err(Refusal::Ends));
@@ -40,7 +41,7 @@ fn numbers_and_rest() {
 /// Each number has a name, and the name its number; words and numbers are those of the C header.
 #[test]
 fn names_are_the_headers() {
-    for number in 1..15 {
+    for number in (1..15).chain([19]) {
         let refusal = Refusal::from_number(number);
         assert_eq!(refusal.number(), number);
         assert!(HEADERS.contains(&format!("\"{refusal}\"")), "the header has other words than: {refusal}");
@@ -75,8 +76,33 @@ fn kept_and_made_up_records() {
     let mut broken = Receiver::from_record(broken);
     assert_eq!(broken.timer(Micros(0)), Err(Refusal::Inconsistent));
     assert_eq!(broken.cause(), None);
+    let mut above = *receiver.record();
+    above.confirmed = 1;
+    assert_eq!(Receiver::from_record(above).confirm(0), Err(Refusal::Inconsistent));
     assert_eq!(Receiver::open(1, 1, Millis(16384), Micros(0)), Err(Refusal::Delay));
     assert_eq!(Receiver::open(LARGEST + 1, 1, Millis(25), Micros(0)), Err(Refusal::TooLarge));
+}
+
+/// A confirmation makes the next ACK shorter, takes no cause away, and does not fall back.
+#[test]
+fn confirmations() {
+    let mut receiver = Receiver::open(1, 0, Millis(25), Micros(1000)).unwrap();
+    let packet = |number| Packet { number, time: Micros(0), eliciting: true, marked: false };
+    let mut buffer = [0; ACK_ROOM];
+    assert_eq!((receiver.packet(packet(0)), receiver.packet(packet(2))), (Ok(None), Ok(Some(Cause::Count))));
+    assert_eq!(receiver.confirm(0), Err(Refusal::NotAcknowledged));
+    assert_eq!(receiver.write(Micros(0), &mut buffer), Ok(&[0x02, 2, 0, 1, 0, 0, 0][..]));
+    assert_eq!((receiver.packet(packet(4)), receiver.packet(packet(5))), (Ok(None), Ok(Some(Cause::Count))));
+    let before = receiver;
+    assert_eq!(receiver.confirm(LARGEST + 1), Err(Refusal::TooLarge));
+    assert_eq!(receiver.confirm(3), Err(Refusal::NotAcknowledged));
+    assert_eq!(receiver, before, "a refused call changed the record");
+    assert_eq!((receiver.confirm(2), receiver.confirmed(), receiver.cause()), (Ok(()), 3, Some(Cause::Count)));
+    assert_eq!((receiver.confirm(0), receiver.confirmed()), (Ok(()), 3));
+    assert_eq!(receiver.packet(packet(2)), Err(Refusal::BelowWindow));
+    assert_eq!(receiver.write(Micros(0), &mut buffer), Ok(&[0x02, 5, 0, 0, 1][..]));
+    assert_eq!((receiver.confirm(5), receiver.confirmed()), (Ok(()), 5));
+    assert_eq!(receiver.packet(packet(5)), Err(Refusal::Repeated));
 }
 
 /// Every metric by a value of its own, and a status of each kind.

@@ -100,6 +100,16 @@ impl Room {
         self.came_to(answer);
     }
 
+    /// The sender acknowledges the packet that carried an ACK: it knows of the numbers up to that ACK's largest.
+    fn confirmed(&mut self, largest: u64) {
+        self.say(&format!("The packet with the acknowledgment of {largest} is itself acknowledged."));
+        let answer = self.receiver.confirm(largest);
+        self.say(&match answer {
+            Ok(()) => format!(" Numbers below {} are reported no more.\n", self.receiver.confirmed()),
+            Err(refusal) => refused(refusal),
+        });
+    }
+
     /// Reads a report, and says what became of each object that it has an entry for.
     fn read_report(&mut self, bytes: &[u8]) {
         let report = match Report::read(bytes) {
@@ -184,6 +194,19 @@ fn the_room() {
     room.acknowledge(29000, 4);
     room.acknowledge(29000, 5);
     room.asked();
+    room.acknowledge(29400, ROOM);
+
+    room.say("\nThe sender confirms an acknowledgment\n");
+    room.packet(12, 30000, false);
+    room.packet(13, 31000, false);
+    room.acknowledge(31000, ROOM);
+    room.confirmed(9);
+    room.acknowledge(31500, ROOM);
+    room.packet(9, 32000, false);
+    room.confirmed(13);
+    room.packet(14, 33000, false);
+    room.acknowledge(33000, ROOM);
+    room.confirmed(15);
 
     room.say("\nThe report\n");
     room.report();

@@ -27,6 +27,8 @@ use Rattle.host.proofs.calls.lumbixet_threshold.Reads as threshold
 use Rattle.host.proofs.calls.lumbixet_threshold.Kinds as threshold-kinds
 use Rattle.host.proofs.calls.lumbixet_immediate.Reads as immediate
 use Rattle.host.proofs.calls.lumbixet_immediate.Kinds as immediate-kinds
+use Rattle.host.proofs.calls.lumbixet_confirm.Reads as confirm
+use Rattle.host.proofs.calls.lumbixet_confirm.Kinds as confirm-kinds
 use Rattle.host.proofs.calls.lumbixet_write.Reads as write
 use Rattle.host.proofs.calls.lumbixet_write.Kinds as write-kinds
 use Rattle.host.proofs.reports.lumbixet_read_report.Reads as read-report
@@ -73,6 +75,9 @@ threshold-one κs given x y s t p q = p ∙ sym q
 
 pub immediate-one : OneAnswer 0 immediate-kinds.ps immediate-kinds.r immediate.Post
 immediate-one κs given x y s t p q = p ∙ sym q
+
+pub confirm-one : OneAnswer 0 confirm-kinds.ps confirm-kinds.r confirm.Post
+confirm-one κs given x y s t p q = p ∙ sym q
 
 pub write-one : OneBuffer 1 write-kinds.ps write-kinds.r (λ κs s. now (s .1 .1 .0)) write.Post
 write-one κs given x y s t p q = (p .0 ∙ sym (q .0), p .1 ∙ sym (q .1))

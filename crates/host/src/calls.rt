@@ -2,6 +2,7 @@
 ghost use mathlib.Core.Path.{_≡_};
 ghost use Rattle.receiver.specs.Packet.{packetCall};
 ghost use Rattle.receiver.specs.Calls.{openCall, timerCall, immediateCall, thresholdCall};
+ghost use Rattle.receiver.specs.Confirm.{confirmCall};
 ghost use Rattle.receiver.specs.Write.{writeAnswer, writeBytes};
 ghost use Rattle.host.specs.Calls.{millis, micros, verdictOut, heardOut};
 use receiver::Answer;
@@ -85,6 +86,14 @@ pub extern "C" fn lumbixet_immediate(receiver: Receiver) -> Answer
     ensures { λ r. ⌜ r ≡ immediateCall receiver ⌝ }
 {
     receiver.immediate()
+}
+
+// A packet that carried our ACK was itself confirmed: that ACK's largest number.
+#[no_mangle]
+pub extern "C" fn lumbixet_confirm(receiver: Receiver, largest: u64) -> Answer
+    ensures { λ r. ⌜ r ≡ confirmCall receiver largest ⌝ }
+{
+    receiver.confirm(largest)
 }
 
 // Writes an ACK frame at the start of the buffer.

@@ -5,7 +5,7 @@ use mathlib.Core.Path.{_≡_, refl, sym, ap, _∙_}
 use mathlib.Core.Bool.{Bool, true, false, not, _&&_}
 use mathlib.Core.List.{List, [], _∷_}
 use native.Mathlib.Omega.{arith}
-use borrow.Author.Tests.{ltb-true, ltb-false, leb-true, eqb-false, lt-ltb, le-leb}
+use borrow.Author.Tests.{ltb-true, ltb-false, leb-true, leb-false, eqb-false, lt-ltb, le-leb}
 use lib.Dec.{leb, ltb, eqb}
 use Rattle.wire.specs.Numbers.{limit}
 use Rattle.seen.specs.declared.Micros.{Micros}
@@ -18,11 +18,12 @@ use Rattle.seen.specs.Received.{floor, received}
 use Rattle.receiver.specs.Record.{delayRule, consistent}
 use Rattle.receiver.specs.Packet.{packetRefusal, packetAfter, packetCall, handedBack}
 use Rattle.receiver.specs.Calls.{timerRefusal, timerAfter, timerCall, immediateRefusal, immediateAfter, immediateCall, agreedAfter, thresholdVerdict, thresholdCall, heard}
+use Rattle.receiver.specs.Confirm.{confirmRefusal, confirmAfter, confirmCall}
 use Rattle.receiver.specs.Write.{writeRefusal, afterWrite, answered}
-use Rattle.receiver.specs.Exactly.{Row, row, first, packetRows, timerRows, immediateRows, thresholdRows, verdictOf}
+use Rattle.receiver.specs.Exactly.{Row, row, first, packetRows, timerRows, immediateRows, thresholdRows, confirmRows, verdictOf}
 use Rattle.receiver.specs.Emits.{writeRows}
 use Rattle.receiver.proofs.Exactly.{unchanged}
-use Rattle.promises.specs.Sequence.{Call, packet, timer, immediate, threshold, write, accepted, replyOf, replyTo, step}
+use Rattle.promises.specs.Sequence.{Call, packet, timer, immediate, threshold, write, confirm, accepted, replyOf, replyTo, step}
 use Rattle.promises.proofs.Truth.{both-left, both-right, not-false, last-false}
 use Rattle.promises.proofs.Rows.{by-rows}
 
@@ -34,6 +35,7 @@ made r (timer time) = timerAfter r time
 made r immediate = immediateAfter r
 made r (threshold sequence t delay q) = agreedAfter r sequence t delay q
 made r (write time room) = afterWrite r
+made r (confirm k) = confirmAfter r k
 
 handed-new : (k : ℕ) (old new : Receiver) → replyOf (handedBack k old new .result) ≡ accepted → handedBack k old new .next ≡ new
 handed-new zero old new e = refl
@@ -60,15 +62,17 @@ step-kept r (timer time) f = unchanged .timer r time (λ z. f (ap replyOf z))
 step-kept r immediate f = unchanged .immediate r (λ z. f (ap replyOf z))
 step-kept r (threshold s t d q) f = unchanged .threshold r s t d q (λ z. f (ap replyTo z))
 step-kept r (write time room) f = answered-old (writeRefusal r time room) r f
+step-kept r (confirm k) f = unchanged .confirm r k (λ z. f (ap replyOf z))
 
 -- an accepted one hands back what it makes
 pub step-made : (r : Receiver) (c : Call) → step r c .reply ≡ accepted → step r c .next ≡ made r c
-unfolding step packetCall timerCall immediateCall thresholdCall
+unfolding step packetCall timerCall immediateCall thresholdCall confirmCall
 step-made r (packet n time eliciting marked) e = handed-new (packetRefusal r n time) r (packetAfter r n time eliciting marked) e
 step-made r (timer time) e = handed-new (timerRefusal r time) r (timerAfter r time) e
 step-made r immediate e = handed-new (immediateRefusal r) r (immediateAfter r) e
 step-made r (threshold s t d q) e = heard-new (thresholdVerdict r s t d q) r (agreedAfter r s t d q) e
 step-made r (write time room) e = answered-new (writeRefusal r time room) r e
+step-made r (confirm k) e = handed-new (confirmRefusal r k) r (confirmAfter r k) e
 
 -- ---- what record and arguments of an accepted call meet, besides consistency
 
@@ -92,6 +96,7 @@ Meets r (timer time) = time .0 ≤ limit
 Meets r immediate = 0 < r .seen .end
 Meets r (threshold sequence t delay q) = FrameMeets r sequence t delay q
 Meets r (write time room) = 0 < r .seen .end
+Meets r (confirm k) = k < r .acknowledged
 
 pub reply-zero : (k : ℕ) → replyOf k ≡ accepted → k ≡ 0
 reply-zero zero e = refl
@@ -158,3 +163,8 @@ step-meets r (write time room) e =
     let a = rest 0 (not (consistent r)) _ (reply-zero (first (writeRows r time room)) (sym (by-rows r (write time room)) ∙ e)) in
     let b = rest 4 (not (small (time .0))) _ (a .1) in
     some-received (r .seen .end) _ (b .1)
+step-meets r (confirm k) e =
+    let a = rest 0 (not (consistent r)) _ (reply-zero (first (confirmRows r k)) (sym (by-rows r (confirm k)) ∙ e)) in
+    let b = rest 4 (not (small k)) _ (a .1) in
+    let c = rest 7 (eqb (r .seen .end) 0) _ (b .1) in
+    leb-false (r .acknowledged) k (rest 18 (leb (r .acknowledged) k) [] (c .1) .0)

@@ -17,12 +17,13 @@ use Rattle.seen.specs.declared.Seen.{Seen}
 use Rattle.receiver.specs.declared.Pending.{Pending}
 use Rattle.receiver.specs.declared.Agreed.{Agreed}
 use Rattle.receiver.specs.declared.Receiver.{Receiver}
+use Rattle.seen.specs.Received.{confirmedAfter}
 use Rattle.receiver.specs.Packet.{nothingAgreed, pendingAfter, firstCause, congestion, causeAfter, packetAfter, standing, handedBack}
 use Rattle.receiver.specs.Calls.{opened, usual, openRefusal, openCall, timerDue, agreedAfter}
 use Rattle.receiver.specs.Write.{afterWrite}
-use Rattle.promises.specs.Sequence.{Call, packet, timer, immediate, threshold, write, Calls, none, _then_, Reply, accepted, stale, refused, after, replied, opening}
+use Rattle.promises.specs.Sequence.{Call, packet, timer, immediate, threshold, write, confirm, Calls, none, _then_, Reply, accepted, stale, refused, after, replied, opening}
 use Rattle.promises.specs.Accepted.{Packet, Frame, packetOf, frameOf, joined, acceptedOf, packets, since, before, frames}
-use Rattle.promises.specs.Told.{largest, elicitingOf, arrivalOf, firstArrival, lastMark, noFrame, largestSequence, valuesOf, inForce, seenOf, leftArrival, pendingOf, tell}
+use Rattle.promises.specs.Told.{largest, elicitingOf, arrivalOf, firstArrival, lastMark, noFrame, largestSequence, valuesOf, inForce, confirmedOf, seenOf, leftArrival, pendingOf, tell}
 use Rattle.promises.specs.Due.{known, ofPacket, due}
 use Rattle.promises.proofs.Acceptance.{made, Meets, PacketMeets, step-kept, step-made, step-meets}
 use Rattle.promises.proofs.Marks.{told-none, seen, seen-told}
@@ -96,7 +97,7 @@ no-frame a (f ∷ fs) e =
 module _ (o : Receiver) (cs : Calls) (cause : ℕ) where
   plain-told : (n : ℕ) (time : Micros) (marked : Bool) → PacketMeets (seenOf cs) n time
       → packetAfter (tell o cs cause) n time false marked ≡ tell o (cs then packet n time false marked) cause
-  unfolding packetAfter seenOf packets since before frames elicitingOf lastMark leftArrival pendingOf
+  unfolding packetAfter seenOf confirmedOf packets since before frames elicitingOf lastMark leftArrival pendingOf
   plain-told n time marked m =
       ap (λ (s : Seen). record {
         seen = s;
@@ -107,11 +108,11 @@ module _ (o : Receiver) (cs : Calls) (cause : ℕ) where
         highest = largest (elicitingOf (packets cs));
         ce = pick marked 1 0;
         cause = cause;
-      }) (seen-told (packetOf n time false marked) (packets cs) (m .window))
+      }) (seen-told (confirmedOf cs) (packetOf n time false marked) (packets cs) (m .window))
 
   eliciting-told : (n : ℕ) (time : Micros) (marked : Bool) → PacketMeets (seenOf cs) n time
       → packetAfter (tell o cs cause) n time true marked ≡ tell o (cs then packet n time true marked) (standing cause (ofPacket o cs n time marked))
-  unfolding packetAfter seenOf packets before frames elicitingOf lastMark largest causeAfter firstCause congestion
+  unfolding packetAfter seenOf confirmedOf packets before frames elicitingOf lastMark largest causeAfter firstCause congestion
   eliciting-told n time marked m =
       ap₂ (λ (s : Seen) (p : Pending). record {
         seen = s;
@@ -122,27 +123,31 @@ module _ (o : Receiver) (cs : Calls) (cause : ℕ) where
         highest = max (largest (elicitingOf (packets cs))) (n + 1);
         ce = pick marked 1 0;
         cause = standing cause (firstCause (known o cs) n marked s p);
-      }) (seen-told (packetOf n time true marked) (packets cs) (m .window)) (pending-told cs n time marked)
+      }) (seen-told (confirmedOf cs) (packetOf n time true marked) (packets cs) (m .window)) (pending-told cs n time marked)
 
 -- the record that is told with its cause
 abbrev whole : Receiver → Calls → Receiver
 whole o cs = tell o cs (due o cs)
 
 timer-told : (o : Receiver) (cs : Calls) (time : Micros) → made (whole o cs) (timer time) ≡ whole o (cs then timer time)
-unfolding seenOf packets since before frames leftArrival pendingOf due timerDue
+unfolding seenOf confirmedOf packets since before frames leftArrival pendingOf due timerDue
 timer-told o cs time = refl
 
 immediate-told : (o : Receiver) (cs : Calls) → made (whole o cs) immediate ≡ whole o (cs then immediate)
-unfolding seenOf packets since before frames leftArrival pendingOf due
+unfolding seenOf confirmedOf packets since before frames leftArrival pendingOf due
 immediate-told o cs = refl
 
 write-told : (o : Receiver) (cs : Calls) (time : Micros) (room : ℕ) → made (whole o cs) (write time room) ≡ whole o (cs then write time room)
-unfolding seenOf packets since before frames leftArrival pendingOf due afterWrite elicitingOf largest firstArrival
+unfolding seenOf confirmedOf packets since before frames leftArrival pendingOf due afterWrite elicitingOf largest firstArrival
 write-told o cs time room = refl
+
+confirm-told : (o : Receiver) (cs : Calls) (k : ℕ) → made (whole o cs) (confirm k) ≡ whole o (cs then confirm k)
+unfolding seenOf confirmedOf packets since before frames leftArrival pendingOf due confirmedAfter
+confirm-told o cs k = refl
 
 threshold-told : (o : Receiver) (cs : Calls) (s t : ℕ) (d : Micros) (q : ℕ) → largestSequence (frames cs) ≤ s
     → made (whole o cs) (threshold s t d q) ≡ whole o (cs then threshold s t d q)
-unfolding seenOf packets since before frames leftArrival pendingOf due agreedAfter
+unfolding seenOf confirmedOf packets since before frames leftArrival pendingOf due agreedAfter
 threshold-told o cs s t d q h =
     ap (λ (a : Agreed). record {
       seen = seenOf cs;
@@ -167,6 +172,7 @@ made-told o z cs (timer time) m = timer-told o cs time
 made-told o z cs immediate m = immediate-told o cs
 made-told o z cs (threshold s t d q) m = threshold-told o cs s t d q (omega (arith, sequence-told (o .agreed) (frames cs) z, m .newer))
 made-told o z cs (write time room) m = write-told o cs time room
+made-told o z cs (confirm k) m = confirm-told o cs k
 
 -- ---- along the calls
 
@@ -194,7 +200,7 @@ follows o s none = s .told
 follows o s (cs then c) = one-more o (s .sequence) cs (acceptedOf o cs) (follows o s cs) c (replied o cs c) refl
 
 opened-starts : (t q : ℕ) (m : Millis) (u : Micros) → Start (opened t q m u)
-unfolding opened seenOf packets since before frames leftArrival pendingOf due elicitingOf largest firstArrival lastMark inForce arrivalOf
+unfolding opened seenOf confirmedOf packets since before frames leftArrival pendingOf due elicitingOf largest firstArrival lastMark inForce arrivalOf
 opened-starts t q m u = record { sequence = refl; told = rw told-none }
 
 starts : (t q : ℕ) (m : Millis) (u : Micros) → Start (opening t q m u)
@@ -230,6 +236,13 @@ module _ (t q : ℕ) (m : Millis) (u : Micros) (cs : Calls) where
   pub end-is : after o cs .seen .end ≡ largest (packets acc)
   unfolding seenOf
   end-is = ap (λ (s : Seen). s .end) seen-is
+
+  pub floor-is : after o cs .seen .confirmed ≡ confirmedOf acc
+  unfolding seenOf
+  floor-is = ap (λ (s : Seen). s .confirmed) seen-is
+
+  pub acknowledged-is : after o cs .acknowledged ≡ largest (before acc)
+  acknowledged-is = ap (λ (r : Receiver). r .acknowledged) agrees
 
   pub limits-are : after o cs .limits ≡ o .limits
   limits-are = ap (λ (r : Receiver). r .limits) agrees

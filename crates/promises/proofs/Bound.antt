@@ -15,9 +15,9 @@ use Rattle.seen.specs.declared.Micros.{Micros}
 use Rattle.receiver.specs.declared.Receiver.{Receiver}
 use Rattle.receiver.specs.Packet.{startsCongestion, nothingAgreed, standing, handedBack}
 use Rattle.receiver.specs.Calls.{opened, usual, openRefusal, openCall, timerDue}
-use Rattle.promises.specs.Sequence.{Call, packet, timer, immediate, threshold, write, Calls, none, _then_, Reply, accepted, stale, refused, after, replied, opening}
+use Rattle.promises.specs.Sequence.{Call, packet, timer, immediate, threshold, write, confirm, Calls, none, _then_, Reply, accepted, stale, refused, after, replied, opening}
 use Rattle.promises.specs.Accepted.{Packet, packetOf, frameOf, joined, acceptedOf, packets, since, before, frames}
-use Rattle.promises.specs.Told.{largest, elicitingOf, among, lastMark, noFrame, largestSequence, inForce, pendingOf}
+use Rattle.promises.specs.Told.{largest, elicitingOf, among, lastMark, noFrame, largestSequence, inForce, floorIn, pendingOf}
 use Rattle.promises.specs.Order.{orderOf}
 use Rattle.promises.specs.Due.{known, due}
 use Rattle.promises.specs.Passed.{oneIf}
@@ -64,6 +64,10 @@ module _ (o : Receiver) (t : ℕ) (cs : Calls) (v : Holds o t cs) where
   unfolding packets since before frames pendingOf C howMany due smallest
   threshold-holds s u delay q h =
       rw (above-others (o .agreed) (frameOf s u delay q) (frames cs) h) (simp add-zero (change-step u q v))
+
+  confirm-holds : (k : ℕ) → Holds o t (cs then confirm k)
+  unfolding packets since before frames pendingOf C howMany due
+  confirm-holds k = simp add-zero v
 
   write-holds : (time : Micros) (room : ℕ) → (due o cs ≡ 0 → ⊥) → Holds o t (cs then write time room)
   unfolding packets since before frames pendingOf C howMany due elicitingOf
@@ -116,22 +120,22 @@ module _ (o : Receiver) (t : ℕ) (cs : Calls) (v : Holds o t cs) where
         → TallyAt o t cs c
         → (a : Bool)
         → ltb (inForce (o .agreed) (frames cs) .threshold) count ≡ a
-        → (b : Bool)
-        → orderOf (p ∷ packets cs) (inForce (o .agreed) (frames cs) .reordering) n (largest (elicitingOf (packets cs))) (largest (before cs)) (max (largest (elicitingOf (since cs))) (n + 1)) ≡ b
+        → (floor : ℕ) (b : Bool)
+        → orderOf floor (p ∷ packets cs) (inForce (o .agreed) (frames cs) .reordering) n (largest (elicitingOf (packets cs))) (largest (before cs)) (max (largest (elicitingOf (since cs))) (n + 1)) ≡ b
         → (g : Bool)
         → Grown (x′ g) (standing c (pick a 2 (pick b 3 (pick g 4 0))))
     unfolding Grown x x′ p count largest elicitingOf pendingOf
-    cause-holds (suc c) old a i b j g = grow (suc c) (x′ g) (omega arith) old
-    cause-holds zero old true i b j g = counted-step (ltb-true (inForce (o .agreed) (frames cs) .threshold) count i) (grow 0 (x′ g) (omega arith) old)
-    cause-holds zero old false i true j g =
+    cause-holds (suc c) old a i floor b j g = grow (suc c) (x′ g) (omega arith) old
+    cause-holds zero old true i floor b j g = counted-step (ltb-true (inForce (o .agreed) (frames cs) .threshold) count i) (grow 0 (x′ g) (omega arith) old)
+    cause-holds zero old false i floor true j g =
         let below : largest (elicitingOf (since cs)) ≤ largest (elicitingOf (packets cs)) = pending-below cs in
         let s =
-        rises p (packets cs) fresh (inForce (o .agreed) (frames cs) .reordering) (largest (elicitingOf (packets cs))) (largest (before cs)) (max (largest (elicitingOf (since cs))) (n + 1))
+        rises floor p (packets cs) fresh (inForce (o .agreed) (frames cs) .reordering) (largest (elicitingOf (packets cs))) (largest (before cs)) (max (largest (elicitingOf (since cs))) (n + 1))
         (highest-below (packets cs)) (omega (arith, highest-below (packets cs))) j
         in
         ordered p (suc (E cs)) (x′ g) count (omega arith) (omega arith) (omega arith) (s .0) (s .1) old
-    cause-holds zero old false i false j true = paid 3 (x′ true) (omega arith) (grow 0 x (omega arith) old)
-    cause-holds zero old false i false j false = grow 0 (x′ false) (omega arith) old
+    cause-holds zero old false i floor false j true = paid 3 (x′ true) (omega arith) (grow 0 x (omega arith) old)
+    cause-holds zero old false i floor false j false = grow 0 (x′ false) (omega arith) old
 
     -- C with this packet, by the congestion line
     started : C (cs then packet n time true marked) ≡ C cs + oneIf (startsCongestion marked (noFrame (frames cs)) (lastMark (packets cs)))
@@ -144,8 +148,8 @@ module _ (o : Receiver) (t : ℕ) (cs : Calls) (v : Holds o t cs) where
         subst (λ (c : ℕ). TallyAt o t (cs then packet n time true marked) (standing (due o cs) c)) (sym (due-is .numbers o cs n time marked))
         (rw (started, ← no-frame (o .agreed) (frames cs) z)
         (simp add-zero
-        (cause-holds (due o cs) v (ltb (inForce (o .agreed) (frames cs) .threshold) count) refl
-        (orderOf (p ∷ packets cs) (inForce (o .agreed) (frames cs) .reordering) n (largest (elicitingOf (packets cs))) (largest (before cs)) (max (largest (elicitingOf (since cs))) (n + 1)))
+        (cause-holds (due o cs) v (ltb (inForce (o .agreed) (frames cs) .threshold) count) refl (floorIn (cs then packet n time true marked))
+        (orderOf (floorIn (cs then packet n time true marked)) (p ∷ packets cs) (inForce (o .agreed) (frames cs) .reordering) n (largest (elicitingOf (packets cs))) (largest (before cs)) (max (largest (elicitingOf (since cs))) (n + 1)))
         refl (startsCongestion marked (nothingAgreed (inForce (o .agreed) (frames cs))) (lastMark (packets cs))))))
 
 -- ---- every sequence from an opening
@@ -164,6 +168,7 @@ module _ (t q : ℕ) (maximum : Millis) (minimum : Micros) where
   call-holds u cs v (timer time) e d = timer-holds o u (acc cs) v time
   call-holds u cs v immediate e d = immediate-holds o u (acc cs) v
   call-holds u cs v (threshold s a b r) e d = threshold-holds o u (acc cs) v s a b r (told t q maximum minimum cs .newest s a b r e)
+  call-holds u cs v (confirm k) e d = confirm-holds o u (acc cs) v k
   call-holds u cs v (write time room) e d =
       write-holds o u (acc cs) v time room (λ z. eqb-false (after o cs .cause) 0 (not-true (eqb (after o cs .cause) 0) d) (due-is .cause t q maximum minimum cs ∙ z))
 

@@ -19,7 +19,7 @@ use Rattle.promises.proofs.Truth.{either}
 use Rattle.promises.proofs.Order.{Found, found}
 use Rattle.promises.proofs.Passed.{late, below, late-mono, late-new, below-mono, below-new}
 
-module _ (p : Packet) (ps : List Packet) (fresh : among ps (p .number) ≡ false) where
+module _ (floor : ℕ) (p : Packet) (ps : List Packet) (fresh : among ps (p .number) ≡ false) where
   n : ℕ
   n = p .number
 
@@ -28,7 +28,7 @@ module _ (p : Packet) (ps : List Packet) (fresh : among ps (p .number) ≡ false
   own-below = omega (arith, le-max-right (largest ps) (p .number + 1))
 
   -- R = 1: a number that came late, or one passed over from the earlier H up to this packet
-  near : (highest : ℕ) → highest ≤ largest ps → (ltb (n + 1) highest || isAny (smallestMissing (p ∷ ps) highest n)) ≡ true
+  near : (highest : ℕ) → highest ≤ largest ps → (ltb (n + 1) highest || isAny (smallestMissing floor (p ∷ ps) highest n)) ≡ true
       → late ps + below ps highest + 1 ≤ late (p ∷ ps) + below (p ∷ ps) (max highest (n + 1))
   unfolding n
   near highest h o =
@@ -36,29 +36,29 @@ module _ (p : Packet) (ps : List Packet) (fresh : among ps (p .number) ≡ false
       (λ q.
       let l : n + 1 < highest = ltb-true (n + 1) highest q in
       omega (arith, late-new p ps (omega arith) fresh, below-mono p ps {b = highest} {c = max highest (n + 1)} (omega arith)))
-      (λ q. go (smallestMissing (p ∷ ps) highest n) refl q)
-      (either (ltb (n + 1) highest) (isAny (smallestMissing (p ∷ ps) highest n)) o)
+      (λ q. go (smallestMissing floor (p ∷ ps) highest n) refl q)
+      (either (ltb (n + 1) highest) (isAny (smallestMissing floor (p ∷ ps) highest n)) o)
     where
-      go : (x : Missing) → smallestMissing (p ∷ ps) highest n ≡ x → isAny x ≡ true
+      go : (x : Missing) → smallestMissing floor (p ∷ ps) highest n ≡ x → isAny x ≡ true
           → late ps + below ps highest + 1 ≤ late (p ∷ ps) + below (p ∷ ps) (max highest (n + 1))
       go Nothing e q = absurd (false≢true q)
       go (At m) e q =
-          let g : Found (p ∷ ps) highest n m = found (p ∷ ps) highest n m e in
+          let g : Found (p ∷ ps) highest n m = found floor (p ∷ ps) highest n m e in
           let a : highest ≤ m = g .least in
           let b : m < n = g .most in
           omega (arith, late-mono p ps, below-new p ps highest (max highest (n + 1)) m a (omega arith) (omega (arith, own-below)) (g .missing))
 
   -- R from 2 up: a number that was not yet reported, at least R below U
   far : (reach acknowledged end : ℕ) → end ≤ largest (p ∷ ps)
-      → farBelow reach end (smallestMissing (p ∷ ps) (acknowledged - reach) (end - 1)) ≡ true
+      → farBelow reach end (smallestMissing floor (p ∷ ps) (acknowledged - reach) (end - 1)) ≡ true
       → below ps (acknowledged - reach) + 1 ≤ below (p ∷ ps) (largest (p ∷ ps) - reach)
-  far reach acknowledged end h o = go (smallestMissing (p ∷ ps) (acknowledged - reach) (end - 1)) refl o
+  far reach acknowledged end h o = go (smallestMissing floor (p ∷ ps) (acknowledged - reach) (end - 1)) refl o
     where
-      go : (x : Missing) → smallestMissing (p ∷ ps) (acknowledged - reach) (end - 1) ≡ x → farBelow reach end x ≡ true
+      go : (x : Missing) → smallestMissing floor (p ∷ ps) (acknowledged - reach) (end - 1) ≡ x → farBelow reach end x ≡ true
           → below ps (acknowledged - reach) + 1 ≤ below (p ∷ ps) (largest (p ∷ ps) - reach)
       go Nothing e q = absurd (false≢true q)
       go (At m) e q =
-          let g : Found (p ∷ ps) (acknowledged - reach) (end - 1) m = found (p ∷ ps) (acknowledged - reach) (end - 1) m e in
+          let g : Found (p ∷ ps) (acknowledged - reach) (end - 1) m = found floor (p ∷ ps) (acknowledged - reach) (end - 1) m e in
           let a : m + reach ≤ end - 1 = leb-true (m + reach) (end - 1) q in
           let b : m < end - 1 = g .most in
           below-new p ps (acknowledged - reach) (largest (p ∷ ps) - reach) m (g .least) (omega arith) (omega arith) (g .missing)
@@ -68,7 +68,7 @@ module _ (p : Packet) (ps : List Packet) (fresh : among ps (p .number) ≡ false
       (r highest acknowledged end : ℕ)
       → highest ≤ largest ps
       → end ≤ largest (p ∷ ps)
-      → orderOf (p ∷ ps) r (p .number) highest acknowledged end ≡ true
+      → orderOf floor (p ∷ ps) r (p .number) highest acknowledged end ≡ true
       → (r ≤ 1 → late ps + below ps highest + 1 ≤ late (p ∷ ps) + below (p ∷ ps) (max highest (p .number + 1)))
       × (2 ≤ r → below ps (acknowledged - min r 1023) + 1 ≤ below (p ∷ ps) (largest (p ∷ ps) - min r 1023))
   unfolding orderOf n

@@ -15,7 +15,7 @@ use Rattle.receiver.specs.declared.Receiver.{Receiver}
 use Rattle.receiver.specs.Packet.{order}
 use Rattle.promises.specs.Sequence.{packet, Calls, _then_, accepted, after, replied, opening}
 use Rattle.promises.specs.Accepted.{Packet, acceptedOf, packets, since, before}
-use Rattle.promises.specs.Told.{largest, elicitingOf, pendingOf, tell}
+use Rattle.promises.specs.Told.{largest, elicitingOf, floorIn, pendingOf, tell}
 use Rattle.promises.specs.Order.{smallestMissing, farBelow, orderOf, SameByHighest}
 use Rattle.promises.specs.Due.{due}
 use Rattle.promises.proofs.Packets.{pending-below, highest-reported}
@@ -23,18 +23,18 @@ use Rattle.promises.proofs.Order.{Found, found, in-numbers}
 use Rattle.promises.proofs.Along.{agrees}
 
 -- what A has reached is reported
-reported : (ps : List Packet) (reach acknowledged end : ℕ) → end ≤ acknowledged → farBelow reach end (smallestMissing ps (acknowledged - reach) (end - 1)) ≡ false
-reported ps reach acknowledged end h = go (smallestMissing ps (acknowledged - reach) (end - 1)) refl
+reported : (floor : ℕ) (ps : List Packet) (reach acknowledged end : ℕ) → end ≤ acknowledged → farBelow reach end (smallestMissing floor ps (acknowledged - reach) (end - 1)) ≡ false
+reported floor ps reach acknowledged end h = go (smallestMissing floor ps (acknowledged - reach) (end - 1)) refl
   where
-    go : (x : Missing) → smallestMissing ps (acknowledged - reach) (end - 1) ≡ x → farBelow reach end x ≡ false
+    go : (x : Missing) → smallestMissing floor ps (acknowledged - reach) (end - 1) ≡ x → farBelow reach end x ≡ false
     go Nothing e = refl
     go (At m) e =
-        let v : Found ps (acknowledged - reach) (end - 1) m = found ps (acknowledged - reach) (end - 1) m e in
+        let v : Found ps (acknowledged - reach) (end - 1) m = found floor ps (acknowledged - reach) (end - 1) m e in
         lt-leb (m + reach) (end - 1) (omega (arith, v .least, v .most))
 
 same-by-highest : (cs : Calls) (r n highest : ℕ)
-    → orderOf (packets cs) r n highest (largest (before cs)) (largest (elicitingOf (packets cs)))
-    ≡ orderOf (packets cs) r n highest (largest (before cs)) (largest (elicitingOf (since cs)))
+    → orderOf (floorIn cs) (packets cs) r n highest (largest (before cs)) (largest (elicitingOf (packets cs)))
+    ≡ orderOf (floorIn cs) (packets cs) r n highest (largest (before cs)) (largest (elicitingOf (since cs)))
 unfolding orderOf
 same-by-highest cs zero n highest = refl
 same-by-highest cs (suc zero) n highest = refl
@@ -46,10 +46,10 @@ same-by-highest cs (suc (suc r)) n highest =
     split h u
     (λ l.
     let e : h ≡ u = omega (arith, pending-below cs) in
-    ap (λ (end : ℕ). farBelow reach end (smallestMissing (packets cs) (a - reach) (end - 1))) e)
+    ap (λ (end : ℕ). farBelow reach end (smallestMissing (floorIn cs) (packets cs) (a - reach) (end - 1))) e)
     (λ l.
-    reported (packets cs) reach a h (omega (arith, highest-reported cs))
-    ∙ sym (reported (packets cs) reach a u (omega (arith, highest-reported cs))))
+    reported (floorIn cs) (packets cs) reach a h (omega (arith, highest-reported cs))
+    ∙ sym (reported (floorIn cs) (packets cs) reach a u (omega (arith, highest-reported cs))))
 
 module _ (t q : ℕ) (m : Millis) (w : Micros) (cs : Calls) (n : ℕ) (time : Micros) (marked : Bool) (e : replied (opening t q m w) cs (packet n time true marked) ≡ accepted) where
   abbrev o : Receiver
@@ -69,7 +69,7 @@ module _ (t q : ℕ) (m : Millis) (w : Micros) (cs : Calls) (n : ℕ) (time : Mi
   -- the line on the two records, with the end of H or of U, in numbers
   line : (end : Receiver → ℕ)
       → order (after o (cs then packet n time true marked) .seen) (after o cs .agreed .reordering) n (after o cs .highest) (after o cs .acknowledged) (end (after o (cs then packet n time true marked)))
-      ≡ orderOf (packets now) (after o cs .agreed .reordering) n (after o cs .highest) (largest (before now)) (end (tell o now (due o now)))
+      ≡ orderOf (floorIn now) (packets now) (after o cs .agreed .reordering) n (after o cs .highest) (largest (before now)) (end (tell o now (due o now)))
   unfolding now before
   line end =
       ap₂ (λ (x y : Receiver). order (x .seen) (after o cs .agreed .reordering) n (after o cs .highest) (y .acknowledged) (end x)) new-told (agrees t q m w cs)

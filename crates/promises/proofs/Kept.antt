@@ -1,6 +1,6 @@
 -- Kept: each accepted call keeps every clause of what consistent means, so from an opening refusal 1 never comes.
 -- Assumes nothing.
-use Prim.Native.Nat.{ℕ, zero, suc, _+_, _-_, _/_, _^_, _≤_, _<_, min, max}
+use Prim.Native.Nat.{ℕ, zero, suc, _+_, _-_, _^_, _≤_, _<_, min, max}
 use mathlib.Core.Path.{_≡_, refl, ap, subst, _∙_}
 use mathlib.Core.Bool.{Bool, true, false, _&&_}
 use native.Mathlib.Nat.{max-le, le-max-left, le-max-right, min-le-right, le-min}
@@ -11,67 +11,27 @@ use lib.ListN.{replicate, length-replicate}
 use Rattle.wire.specs.Bytes.{pick}
 use Rattle.wire.specs.Numbers.{limit}
 use Rattle.wire.proofs.Lengths.{split}
-use Rattle.window.specs.Window.{valueOf, windowOf, isSet, withBit}
-use Rattle.window.proofs.Laws.{mark-there, mark-elsewhere, moved-mark}
 use Rattle.receiver.specs.declared.Millis.{Millis}
 use Rattle.seen.specs.declared.Micros.{Micros}
 use Rattle.seen.specs.declared.Seen.{Seen}
 use Rattle.receiver.specs.declared.Pending.{Pending}
 use Rattle.receiver.specs.declared.Receiver.{Receiver}
-use Rattle.seen.specs.Received.{placeOf, seenAfter, markAt, moveOn}
+use Rattle.seen.specs.Received.{seenAfter, confirmedAfter}
 use Rattle.receiver.specs.Record.{consistent}
 use Rattle.receiver.specs.Consistent.{Consistent}
 use Rattle.receiver.specs.Packet.{pendingAfter, causeAfter, firstCause, order, congestion, packetAfter, plainAfter, elicitingAfter, standing}
+use Rattle.receiver.specs.Confirm.{confirmAfter}
 use Rattle.receiver.specs.Calls.{timerDue, timerAfter, immediateAfter, agreedAfter, withCause}
 use Rattle.receiver.proofs.Clauses.{consistent-exactly}
-use Rattle.seen.proofs.After.{seen-end}
+use Rattle.seen.proofs.After.{seen-end, seen-confirmed}
 use Rattle.receiver.proofs.Emits.{write-keeps}
-use Rattle.promises.specs.Sequence.{Call, packet, timer, immediate, threshold, write, Calls, none, _then_, Reply, accepted, stale, refused, Outcome, step, after, opening}
+use Rattle.promises.specs.Sequence.{Call, packet, timer, immediate, threshold, write, confirm, Calls, none, _then_, Reply, accepted, stale, refused, Outcome, step, after, opening}
 use Rattle.promises.specs.Kept.{Kept}
-use Rattle.promises.proofs.Truth.{by-same}
 use Rattle.promises.proofs.Writing.{write-is-step}
 use Rattle.promises.proofs.Rows.{not-one}
 use Rattle.promises.proofs.Acceptance.{made, Meets, PacketMeets, FrameMeets, step-kept, step-made, step-meets}
-use Rattle.promises.proofs.Marks.{made-mark}
 use Rattle.promises.proofs.Openings.{opening-kept}
-
--- ---- the window
-
--- what "Consistent" says of the window
-record Marks (s : Seen) : Type 0 where
-  own : 0 < s .end → isSet (valueOf (s .window)) 1023 ≡ true
-  below : (place : ℕ) → place < 1024 - s .end → isSet (valueOf (s .window)) place ≡ false
-
--- a number of the window marked
-within-marks : (s : Seen) (n : ℕ) → n < s .end → Marks s → Marks (record { window = markAt (s .window) (placeOf (s .end) n); end = s .end; arrived = s .arrived })
-within-marks s n l k =
-    let w : ℕ = valueOf (s .window) in
-    let p : ℕ = placeOf (s .end) n in record {
-      own = λ h. made-mark (withBit w p) 1023 (omega arith) ∙ by-place w p 1023 (k .own h);
-      below = λ q h. made-mark (withBit w p) q (omega arith) ∙ mark-elsewhere w p q (λ e. omega arith) ∙ k .below q h;
-    }
-  where
-    by-place : (w p q : ℕ) → isSet w q ≡ true → isSet (withBit w p) q ≡ true
-    by-place w p q e = by-same q p (λ i. ap (isSet (withBit w p)) i ∙ mark-there w p) (λ i. mark-elsewhere w p q i ∙ e)
-
--- a number above L: the places move, and the last is marked
-above-marks : (s : Seen) (n : ℕ) (time : Micros) → s .end ≤ n → Marks s → Marks (record { window = markAt (moveOn (s .window) (n + 1 - s .end)) 1023; end = n + 1; arrived = time })
-above-marks s n time l k =
-    let w : ℕ = valueOf (s .window) in
-    let d : ℕ = n + 1 - s .end in
-    let v : ℕ = valueOf (windowOf (w / 2 ^ d)) in record {
-      own = λ h. made-mark (withBit v 1023) 1023 (omega arith) ∙ mark-there v 1023;
-      below = λ q h.
-          made-mark (withBit v 1023) q (omega arith) ∙ mark-elsewhere v 1023 q (λ e. omega arith) ∙ made-mark (w / 2 ^ d) q (omega arith)
-          ∙ moved-mark w d q ∙ k .below (q + d) (omega arith);
-    }
-
-seen-marks : (s : Seen) (n : ℕ) (time : Micros) → Marks s → Marks (seenAfter s n time)
-unfolding seenAfter
-seen-marks s n time k =
-    split (s .end) n
-    (λ h. rw (le-ltb n (s .end) h) (above-marks s n time h k))
-    (λ h. rw (lt-ltb n (s .end) h) (within-marks s n h k))
+use Rattle.promises.proofs.WindowKept.{seen-marks}
 
 -- ---- numbers and causes in range
 
@@ -126,6 +86,7 @@ plain-kept r n time marked k m =
       absent = k .absent;
       own = s .own;
       below = s .below;
+      floor = omega (arith, k .floor, seen-confirmed (r .seen) n time);
       nothing = λ z. absurd (omega arith);
     }
 
@@ -159,6 +120,7 @@ eliciting-kept r n time marked k m =
       absent = (λ z. absurd (omega (arith, le-max-right (r .pending .end) (n + 1))), λ z. absurd (omega arith));
       own = q .own;
       below = q .below;
+      floor = q .floor;
       nothing = λ z. absurd (omega arith);
     }
 
@@ -189,6 +151,7 @@ cause-kept r cause k f g =
       absent = k .absent;
       own = k .own;
       below = k .below;
+      floor = k .floor;
       nothing = g;
     }
 
@@ -231,6 +194,33 @@ threshold-kept r s t d q k m =
       absent = k .absent;
       own = k .own;
       below = k .below;
+      floor = k .floor;
+      nothing = k .nothing;
+    }
+
+confirm-kept : (r : Receiver) (n : ℕ) → Consistent r → Consistent (confirmAfter r n)
+unfolding confirmedAfter
+confirm-kept r n k =
+    record {
+      largest = k .largest;
+      arrived = k .arrived;
+      first = k .first;
+      threshold = k .threshold;
+      reordering = k .reordering;
+      sequence = k .sequence;
+      count = k .count;
+      maximum = k .maximum;
+      minimum = k .minimum;
+      delay = k .delay;
+      least = k .least;
+      cause = k .cause;
+      acknowledged = k .acknowledged;
+      highest = k .highest;
+      unacknowledged = k .unacknowledged;
+      absent = k .absent;
+      own = k .own;
+      below = k .below;
+      floor = max-le (k .floor) (min-le-right (n + 1) (r .seen .end - 1));
       nothing = k .nothing;
     }
 
@@ -258,6 +248,7 @@ call-kept r (timer time) k = by-reply r (timer time) k (λ c m. timer-kept r tim
 call-kept r immediate k = by-reply r immediate k (immediate-kept r) _ refl
 call-kept r (threshold s t d q) k = by-reply r (threshold s t d q) k (threshold-kept r s t d q) _ refl
 call-kept r (write time room) k = write-kept r time room k
+call-kept r (confirm n) k = by-reply r (confirm n) k (λ c m. confirm-kept r n c) _ refl
 
 pub along : (t q : ℕ) (m : Millis) (u : Micros) (cs : Calls) → consistent (after (opening t q m u) cs) ≡ true
 unfolding after

@@ -5,8 +5,10 @@ pub mod Writing
 pub mod Rows
 pub mod Acceptance
 pub mod Openings
+pub mod WindowKept
 pub mod Kept
 pub mod Unchanged
+pub mod Floor
 pub mod Along
 pub mod Told
 pub mod Replies

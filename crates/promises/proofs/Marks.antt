@@ -4,7 +4,7 @@ use Prim.Native.Nat.{ℕ, zero, suc, _+_, _-_, _/_, _^_, _≤_, _<_}
 use mathlib.Core.Path.{_≡_, refl, sym, ap, ap₂, _∙_}
 use mathlib.Core.Bool.{Bool, true, false, _&&_}
 use mathlib.Core.List.{List, [], _∷_}
-use native.Mathlib.Nat.{max-eq-left, max-eq-right, lt-of-le-of-lt, lt-of-lt-of-le}
+use native.Mathlib.Nat.{max-eq-left, max-eq-right, le-max-right, le-trans, lt-of-le-of-lt, lt-of-lt-of-le}
 use native.Mathlib.Omega.{arith}
 use borrow.Author.Tests.{le-leb, lt-leb, lt-ltb, le-ltb, eq-eqb, ne-eqb}
 use lib.Dec.{leb}
@@ -12,19 +12,15 @@ use lib.Pow.{pow-mono, pow-pos, shr-le}
 use Rattle.wire.specs.Bytes.{pick}
 use Rattle.wire.proofs.Lengths.{split}
 use Rattle.window.specs.Window.{valueOf, windowOf, isSet, withBit}
-use Rattle.window.proofs.Laws.{number-of, number-kept, low-mark, mark-there, mark-elsewhere, mark-below, moved-mark, high-mark, same-marks, zero-mark}
+use Rattle.window.proofs.Laws.{number-kept, mark-there, mark-elsewhere, mark-below, moved-mark, high-mark, same-marks, zero-mark}
 use Rattle.seen.specs.declared.Seen.{Seen}
-use Rattle.seen.specs.Received.{floorOf, placeOf, seenAfter}
+use Rattle.seen.specs.Received.{floorOf, floor, placeOf, seenAfter}
 use Rattle.promises.specs.Accepted.{Packet}
 use Rattle.promises.specs.Told.{largest, among, arrivalOf, isMarked, marks}
 use Rattle.promises.proofs.Truth.{by-same}
 use Rattle.promises.proofs.Packets.{none-above}
 
 -- ---- the number with given marks
-
--- of a window made of a number each place has the number's mark
-pub made-mark : (v q : ℕ) → q < 1024 → isSet (valueOf (windowOf v)) q ≡ isSet v q
-made-mark v q l = ap (λ (x : ℕ). isSet x q) (number-of v) ∙ low-mark v 1024 q l
 
 pub marks-below : (test : ℕ → Bool) (k : ℕ) → marks test k < 2 ^ k
 unfolding marks
@@ -150,13 +146,14 @@ module _ (p : Packet) (ps : List Packet) where
 
 -- ---- the record's part
 
-abbrev pub seen : List Packet → Seen
-seen ps = record { window = windowOf (marksOf ps); end = largest ps; arrived = arrivalOf ps }
+abbrev pub seen : ℕ → List Packet → Seen
+seen confirmed ps = record { window = windowOf (marksOf ps); end = largest ps; arrived = arrivalOf ps; confirmed = confirmed }
 
 -- an accepted packet leaves what one packet more tells
-pub seen-told : (p : Packet) (ps : List Packet) → floorOf (largest ps) ≤ p .number → seenAfter (seen ps) (p .number) (p .time) ≡ seen (p ∷ ps)
+pub seen-told : (confirmed : ℕ) (p : Packet) (ps : List Packet) → floor (seen confirmed ps) ≤ p .number → seenAfter (seen confirmed ps) (p .number) (p .time) ≡ seen confirmed (p ∷ ps)
 unfolding seenAfter arrivalOf
-seen-told p ps f =
+seen-told confirmed p ps f =
+    let g : floorOf (largest ps) ≤ p .number = le-trans (le-max-right confirmed (floorOf (largest ps))) f in
     split (largest ps) (p .number)
     (λ h. rw (le-ltb (p .number) (largest ps) h, told-value ps, above p ps h, new-largest p ps h))
     (λ h. rw (lt-ltb (p .number) (largest ps) h, told-value ps, within p ps h (omega arith), stays-largest p ps h))

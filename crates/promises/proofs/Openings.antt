@@ -8,7 +8,7 @@ use borrow.Author.Tests.{ltb-true, leb-true}
 use lib.Dec.{leb, ltb}
 use Rattle.wire.specs.Bytes.{pick}
 use Rattle.wire.specs.Numbers.{limit}
-use Rattle.window.proofs.Laws.{zero-mark}
+use Rattle.window.proofs.Laws.{made-mark, zero-mark}
 use Rattle.receiver.specs.declared.Millis.{Millis}
 use Rattle.seen.specs.declared.Micros.{Micros}
 use Rattle.seen.specs.Numbers.{small}
@@ -18,7 +18,6 @@ use Rattle.receiver.specs.Packet.{handedBack}
 use Rattle.receiver.specs.Calls.{opened, usual, openRefusal, openCall}
 use Rattle.receiver.proofs.Clauses.{consistent-exactly}
 use Rattle.promises.specs.Sequence.{opening}
-use Rattle.promises.proofs.Marks.{made-mark}
 use Rattle.promises.proofs.Truth.{both-left, both-right}
 
 opened-kept : (t q : ℕ) (m : Millis) (u : Micros) → t ≤ limit → q ≤ limit → m .0 < 16384 → u .0 ≤ m .0 * 1000 → Consistent (opened t q m u)
@@ -43,6 +42,7 @@ opened-kept t q m u ft fq fm fu =
       absent = (λ z. refl, λ z. refl);
       own = λ h. absurd (omega arith);
       below = λ q h. made-mark 0 q h ∙ zero-mark q;
+      floor = omega arith;
       nothing = λ z. refl;
     }
 

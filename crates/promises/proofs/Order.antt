@@ -4,7 +4,7 @@ use Prim.Native.Nat.{ℕ, zero, suc, _+_, _-_, _≤_, _<_, min, max}
 use mathlib.Core.Path.{_≡_, refl, ap, ap₂, _∙_}
 use mathlib.Core.Bool.{Bool, true, false, _||_}
 use mathlib.Core.List.{List}
-use native.Mathlib.Nat.{le-max-left, le-max-right, min-le-left}
+use native.Mathlib.Nat.{le-max-left, le-max-right, le-trans, min-le-left}
 use native.Mathlib.Omega.{arith}
 use lib.Dec.{ltb}
 use Rattle.window.specs.Window.{firstClear}
@@ -13,10 +13,10 @@ use Rattle.window.specs.declared.Missing.the-variants.{At, Nothing}
 use Rattle.window.proofs.Laws.{marked-bit, unmarked-bit}
 use Rattle.window.proofs.Clear.{hit, pass}
 use Rattle.seen.specs.declared.Seen.{Seen}
-use Rattle.seen.specs.Received.{floorOf, placeOf, isAny, firstMissing}
+use Rattle.seen.specs.Received.{floorOf, floor, placeOf, isAny, firstMissing}
 use Rattle.receiver.specs.Packet.{reaches, outOfOrder, gapReached, order}
 use Rattle.promises.specs.Accepted.{Packet, packets}
-use Rattle.promises.specs.Told.{largest, among, seenOf}
+use Rattle.promises.specs.Told.{largest, among, confirmedOf, seenOf}
 use Rattle.promises.specs.Order.{missingFrom, smallestMissing, farBelow, orderOf, InNumbers}
 use Rattle.promises.proofs.Marks.{marksOf, told-value, told-place, seen}
 
@@ -49,13 +49,13 @@ between n low end l = omega arith
 below-first : (m low to end : ℕ) → low ≤ m → m < low + (min to end - low) → m < to
 below-first m low to end a b = omega (arith, min-le-left to end)
 
-sought : (ps : List Packet) (from to : ℕ) → inNumbers (largest ps) (firstMissing (seen ps) from to) ≡ smallestMissing ps from to
+sought : (k : ℕ) (ps : List Packet) (from to : ℕ) → inNumbers (largest ps) (firstMissing (seen k ps) from to) ≡ smallestMissing (floor (seen k ps)) ps from to
 unfolding firstMissing smallestMissing
-sought ps from to =
-    let low : ℕ = max from (floorOf (largest ps)) in
-    let l : floorOf (largest ps) ≤ low = le-max-right from (floorOf (largest ps)) in
-    let k : placeOf (largest ps) (min to (largest ps)) - placeOf (largest ps) low ≡ min to (largest ps) - low = between (min to (largest ps)) low (largest ps) l in
-    ap₂ (λ (k w : ℕ). inNumbers (largest ps) (firstClear k (placeOf (largest ps) low) w)) k (told-value ps)
+sought k ps from to =
+    let low : ℕ = max from (floor (seen k ps)) in
+    let l : floorOf (largest ps) ≤ low = le-trans (le-max-right k (floorOf (largest ps))) (le-max-right from (floor (seen k ps))) in
+    let e : placeOf (largest ps) (min to (largest ps)) - placeOf (largest ps) low ≡ min to (largest ps) - low = between (min to (largest ps)) low (largest ps) l in
+    ap₂ (λ (k w : ℕ). inNumbers (largest ps) (firstClear k (placeOf (largest ps) low) w)) e (told-value ps)
     ∙ search ps (min to (largest ps) - low) (placeOf (largest ps) low) low (place-sum low (largest ps) l)
 
 any-same : (end : ℕ) (x : Missing) → isAny x ≡ isAny (inNumbers end x)
@@ -66,19 +66,20 @@ reach-same : (s : Seen) (reach end : ℕ) (x : Missing) → reaches s reach end 
 reach-same s reach end (At place) = refl
 reach-same s reach end Nothing = refl
 
-order-of : (ps : List Packet) (r n highest acknowledged end : ℕ) → order (seen ps) r n highest acknowledged end ≡ orderOf ps r n highest acknowledged end
+order-of : (k : ℕ) (ps : List Packet) (r n highest acknowledged end : ℕ)
+    → order (seen k ps) r n highest acknowledged end ≡ orderOf (floor (seen k ps)) ps r n highest acknowledged end
 unfolding order orderOf outOfOrder gapReached
-order-of ps zero n highest acknowledged end = refl
-order-of ps (suc zero) n highest acknowledged end =
-    ap (λ (b : Bool). ltb (n + 1) highest || b) (any-same (largest ps) (firstMissing (seen ps) highest n) ∙ ap isAny (sought ps highest n))
-order-of ps (suc (suc r)) n highest acknowledged end =
+order-of k ps zero n highest acknowledged end = refl
+order-of k ps (suc zero) n highest acknowledged end =
+    ap (λ (b : Bool). ltb (n + 1) highest || b) (any-same (largest ps) (firstMissing (seen k ps) highest n) ∙ ap isAny (sought k ps highest n))
+order-of k ps (suc (suc r)) n highest acknowledged end =
     let reach : ℕ = min (suc (suc r)) 1023 in
-    reach-same (seen ps) reach end (firstMissing (seen ps) (acknowledged - reach) (end - 1))
-    ∙ ap (farBelow reach end) (sought ps (acknowledged - reach) (end - 1))
+    reach-same (seen k ps) reach end (firstMissing (seen k ps) (acknowledged - reach) (end - 1))
+    ∙ ap (farBelow reach end) (sought k ps (acknowledged - reach) (end - 1))
 
 pub in-numbers : InNumbers
 unfolding seenOf
-in-numbers cs r n highest acknowledged end = order-of (packets cs) r n highest acknowledged end
+in-numbers cs r n highest acknowledged end = order-of (confirmedOf cs) (packets cs) r n highest acknowledged end
 
 -- ---- what the search over numbers finds
 
@@ -98,12 +99,12 @@ found-from ps (suc k) n m e = go (among ps n) refl (λ f. found-from ps k (suc n
     go true t i f = let v = i f in record { least = omega (arith, v .least); most = omega (arith, v .most); missing = v .missing }
     go false t i f = let h : n ≡ m = cc in record { least = omega arith; most = omega arith; missing = rw (← h) t }
 
-pub found : (ps : List Packet) (from to m : ℕ) → smallestMissing ps from to ≡ At m → Found ps from to m
+pub found : (floor : ℕ) (ps : List Packet) (from to m : ℕ) → smallestMissing floor ps from to ≡ At m → Found ps from to m
 unfolding smallestMissing
-found ps from to m e =
-    let low : ℕ = max from (floorOf (largest ps)) in
+found floor ps from to m e =
+    let low : ℕ = max from floor in
     let v = found-from ps (min to (largest ps) - low) low m e in
-    let l : from ≤ low = le-max-left from (floorOf (largest ps)) in
+    let l : from ≤ low = le-max-left from floor in
     let a : low ≤ m = v .least in
     let b : m < low + (min to (largest ps) - low) = v .most in
     record { least = omega arith; most = below-first m low to (largest ps) a b; missing = v .missing }

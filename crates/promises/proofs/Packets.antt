@@ -8,7 +8,7 @@ use native.Mathlib.Nat.{le-max-left, le-max-right}
 use native.Mathlib.Omega.{arith}
 use borrow.Author.Tests.{ne-eqb}
 use Rattle.wire.specs.Bytes.{pick}
-use Rattle.promises.specs.Sequence.{packet, timer, immediate, threshold, write, Calls, none, _then_}
+use Rattle.promises.specs.Sequence.{packet, timer, immediate, threshold, write, confirm, Calls, none, _then_}
 use Rattle.promises.specs.Accepted.{Packet, packets, since, before}
 use Rattle.promises.specs.Told.{largest, elicitingOf, among}
 
@@ -56,6 +56,7 @@ pending-below (cs then timer time) = pending-below cs
 pending-below (cs then immediate) = pending-below cs
 pending-below (cs then threshold s t d q) = pending-below cs
 pending-below (cs then write time room) = omega arith
+pending-below (cs then confirm k) = pending-below cs
 
 -- and H is at most the larger of U and A: what came before the last written ACK is at most A
 pub highest-reported : (cs : Calls) → largest (elicitingOf (packets cs)) ≤ max (largest (elicitingOf (since cs))) (largest (before cs))
@@ -67,3 +68,4 @@ highest-reported (cs then timer time) = highest-reported cs
 highest-reported (cs then immediate) = highest-reported cs
 highest-reported (cs then threshold s t d q) = highest-reported cs
 highest-reported (cs then write time room) = omega (arith, highest-below (packets cs))
+highest-reported (cs then confirm k) = highest-reported cs

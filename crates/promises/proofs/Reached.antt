@@ -5,12 +5,13 @@ use Rattle.wire.specs.Numbers.{firstFrom, form, encode, encodeAll}
 use Rattle.window.specs.Words.{numberOf, wordsOf, bit}
 use Rattle.window.specs.Window.{firstClear, runBelow}
 use Rattle.frames.specs.Ack.{gapsFrom, ackNumbers}
-use Rattle.seen.specs.Received.{seenConsistent, numberRefusal, seenAfter, firstMissing}
+use Rattle.seen.specs.Received.{seenConsistent, numberRefusal, seenAfter, confirmedAfter, firstMissing}
 use Rattle.receiver.specs.Record.{limitsRule, delayRule, pendingConsistent, agreedConsistent, consistent}
 use Rattle.receiver.specs.Packet.{packetRefusal, pendingAfter, outOfOrder, gapReached, order, congestion, firstCause, causeAfter, packetAfter, packetCall}
 use Rattle.receiver.specs.Calls.{opened, openRefusal, openCall, immediateRefusal, immediateCall, timerDue, timerRefusal, timerCall, agreedAfter, thresholdVerdict, thresholdCall}
 use Rattle.seen.specs.Ack.{rangesBelow, frame}
 use Rattle.receiver.specs.Write.{writeRefusal, afterWrite}
+use Rattle.receiver.specs.Confirm.{confirmRefusal, confirmCall}
 use Rattle.promises.specs.Sequence.{step, inOrder, after}
 use Rattle.promises.specs.Accepted.{acceptedOf, packets, frames}
 use Rattle.promises.specs.Told.{noFrame, largest, elicitingOf, among, lastMark}
@@ -21,7 +22,7 @@ use Rattle.promises.specs.Order.{Apart}
 use Rattle.promises.specs.Reached.{eachWritten, Reached}
 
 pub reached : Reached
-unfolding firstFrom form encode encodeAll gapsFrom ackNumbers numberOf wordsOf bit firstClear runBelow limitsRule delayRule seenConsistent pendingConsistent agreedConsistent consistent numberRefusal packetRefusal seenAfter pendingAfter firstMissing outOfOrder gapReached order congestion firstCause causeAfter packetAfter packetCall opened openRefusal openCall immediateRefusal immediateCall timerDue timerRefusal timerCall agreedAfter thresholdVerdict thresholdCall rangesBelow frame writeRefusal afterWrite step inOrder after acceptedOf packets frames largest elicitingOf among lastMark noFrame count passed passedOver C smallest howMany onlyDue eachWritten
+unfolding firstFrom form encode encodeAll gapsFrom ackNumbers numberOf wordsOf bit firstClear runBelow limitsRule delayRule seenConsistent pendingConsistent agreedConsistent consistent numberRefusal packetRefusal seenAfter pendingAfter firstMissing outOfOrder gapReached order congestion firstCause causeAfter packetAfter packetCall opened openRefusal openCall immediateRefusal immediateCall timerDue timerRefusal timerCall agreedAfter thresholdVerdict thresholdCall rangesBelow frame writeRefusal afterWrite confirmedAfter confirmRefusal confirmCall step inOrder after acceptedOf packets frames largest elicitingOf among lastMark noFrame count passed passedOver C smallest howMany onlyDue eachWritten
 reached =
     record {
       manyWrites = record { due = refl; written = refl; most = refl };
@@ -30,6 +31,7 @@ reached =
       someRefused = record { due = refl; written = refl; most = refl };
       refusedOpening = record { due = refl; written = refl; most = refl };
       raisedR = record { due = refl; eliciting = refl; passed = refl; frames = refl; others = refl; written = refl };
+      confirmed = record { due = refl; eliciting = refl; passed = refl; frames = refl; others = refl; written = refl };
     }
 
 pub two-apart : Apart

@@ -1,6 +1,6 @@
 -- Replies: the record that the accepted calls tell gives every row of the table its meaning in the list.
 -- Assumes nothing.
-use Prim.Native.Nat.{ℕ, _≤_, _<_}
+use Prim.Native.Nat.{ℕ, _≤_, _<_, max}
 use mathlib.Core.Path.{_≡_, refl, ap, ap₂, _∙_}
 use mathlib.Core.Bool.{Bool, true, not, _&&_}
 use mathlib.Core.List.{[], _∷_}
@@ -14,17 +14,17 @@ use Rattle.seen.specs.declared.Seen.{Seen}
 use Rattle.receiver.specs.declared.Limits.{Limits}
 use Rattle.receiver.specs.declared.Receiver.{Receiver}
 use Rattle.seen.specs.Numbers.{small}
-use Rattle.seen.specs.Received.{floor, floorOf, floorOf, received}
+use Rattle.seen.specs.Received.{floor, floorOf, received, reported}
 use Rattle.receiver.specs.Record.{delayRule, consistent}
 use Rattle.seen.specs.Ack.{frame, ackDelay}
 use Rattle.receiver.specs.Exactly.{row, first, verdictOf}
-use Rattle.promises.specs.Sequence.{Call, packet, timer, immediate, threshold, write, Calls, none, _then_, Reply, replyOf, replyTo, after, replied, opening}
+use Rattle.promises.specs.Sequence.{Call, packet, timer, immediate, threshold, write, confirm, Calls, none, _then_, Reply, replyOf, replyTo, after, replied, opening}
 use Rattle.promises.specs.Accepted.{joined, acceptedOf, packets}
 use Rattle.promises.specs.Told.{largest, among}
 use Rattle.promises.specs.Replies.{replyAfter, acceptedAfter, Replies}
 use Rattle.promises.proofs.Rows.{later-rows, by-rows}
 use Rattle.promises.proofs.Kept.{along}
-use Rattle.promises.proofs.Along.{limits-are, seen-is, end-is, sequence-is}
+use Rattle.promises.proofs.Along.{limits-are, seen-is, end-is, floor-is, acknowledged-is, sequence-is}
 use Rattle.promises.proofs.Told.{window-is}
 
 -- 6 asks for the mark only in the window
@@ -56,7 +56,7 @@ module _ (t q : ℕ) (m : Millis) (u : Micros) (cs : Calls) where
       (later-rows (consistent now) _ holds
       ∙ ap (λ (b : Bool). first (row 5 (not (small n && small (time .0))) ∷ row 6 b ∷ row 7 (ltb n (floor (now .seen))) ∷ []))
       (by-window (floor (now .seen)) (now .seen .end) n (received (now .seen) n) (among (packets acc) n) (window-is t q m u cs n))
-      ∙ ap (λ (e : ℕ). first (row 5 (not (small n && small (time .0))) ∷ row 6 (leb (floorOf e) n && (ltb n e && among (packets acc) n)) ∷ row 7 (ltb n (floorOf e)) ∷ [])) end)
+      ∙ ap₂ (λ (f e : ℕ). first (row 5 (not (small n && small (time .0))) ∷ row 6 (leb (max f (floorOf e)) n && (ltb n e && among (packets acc) n)) ∷ row 7 (ltb n (max f (floorOf e))) ∷ [])) (floor-is t q m u cs) end)
   reply-is (timer time) = by-rows now (timer time) ∙ ap replyOf (later-rows (consistent now) _ holds)
   reply-is immediate =
       by-rows now immediate ∙ ap replyOf (later-rows (consistent now) _ holds ∙ ap (λ (e : ℕ). first (row 8 (eqb e 0) ∷ [])) (end-is t q m u cs))
@@ -71,8 +71,13 @@ module _ (t q : ℕ) (m : Millis) (u : Micros) (cs : Calls) where
       by-rows now (write time room)
       ∙ ap replyOf
       (later-rows (consistent now) _ holds
-      ∙ ap₂ (λ (e : ℕ) (s : Seen). first (row 5 (not (small (time .0))) ∷ row 8 (eqb e 0) ∷ row 9 (ltb room (length (frame s (ackDelay s time) 1))) ∷ []))
+      ∙ ap₂ (λ (e : ℕ) (s : Seen). first (row 5 (not (small (time .0))) ∷ row 8 (eqb e 0) ∷ row 9 (ltb room (length (frame (reported s) (ackDelay s time) 1))) ∷ []))
       (end-is t q m u cs) (seen-is t q m u cs))
+  reply-is (confirm k) =
+      by-rows now (confirm k)
+      ∙ ap replyOf
+      (later-rows (consistent now) _ holds
+      ∙ ap₂ (λ (e a : ℕ). first (row 5 (not (small k)) ∷ row 8 (eqb e 0) ∷ row 19 (leb a k) ∷ [])) (end-is t q m u cs) (acknowledged-is t q m u cs))
 
 accepted-are : (t q : ℕ) (m : Millis) (u : Micros) (cs : Calls) → acceptedOf (opening t q m u) cs ≡ acceptedAfter (opening t q m u) cs
 unfolding acceptedOf acceptedAfter

@@ -11,11 +11,11 @@ use lib.ListN.{replicate, length-replicate}
 use Rattle.wire.specs.Bytes.{pick}
 use Rattle.receiver.specs.declared.Receiver.{Receiver}
 use Rattle.receiver.specs.Record.{consistent}
-use Rattle.receiver.specs.Exactly.{Row, row, first, packetRows, timerRows, immediateRows, thresholdRows, verdictOf}
+use Rattle.receiver.specs.Exactly.{Row, row, first, packetRows, timerRows, immediateRows, thresholdRows, confirmRows, verdictOf}
 use Rattle.receiver.specs.Emits.{writeRows}
 use Rattle.receiver.proofs.Exactly.{exactly}
 use Rattle.receiver.proofs.Emits.{write-exactly}
-use Rattle.promises.specs.Sequence.{Call, packet, timer, immediate, threshold, write, Reply, refused, Outcome, replyOf, replyTo, step}
+use Rattle.promises.specs.Sequence.{Call, packet, timer, immediate, threshold, write, confirm, Reply, refused, Outcome, replyOf, replyTo, step}
 use Rattle.promises.proofs.Truth.{both-left, both-right}
 use Rattle.promises.proofs.Writing.{write-is-step}
 
@@ -25,6 +25,7 @@ replyBy r (timer time) = replyOf (first (timerRows r time))
 replyBy r immediate = replyOf (first (immediateRows r))
 replyBy r (threshold s t d q) = replyTo (verdictOf (first (thresholdRows r s t d q)) (ltb s (r .agreed .sequence)))
 replyBy r (write time room) = replyOf (first (writeRows r time room))
+replyBy r (confirm k) = replyOf (first (confirmRows r k))
 
 pub by-rows : (r : Receiver) (c : Call) → step r c .reply ≡ replyBy r c
 unfolding step
@@ -35,6 +36,7 @@ by-rows r (threshold s t d q) = ap replyTo (exactly .threshold r s t d q)
 by-rows r (write time room) =
     subst (λ (k : ℕ). step r (write time k) .reply ≡ replyOf (first (writeRows r time k))) (length-replicate room 0)
     (ap (λ (x : Outcome). x .reply) (write-is-step r time (replicate room 0)) ∙ ap replyOf (write-exactly r time (replicate room 0)))
+by-rows r (confirm k) = ap replyOf (exactly .confirm r k)
 
 -- ---- refusal 1
 
@@ -76,3 +78,4 @@ not-one r c k e = go c (sym (by-rows r c) ∙ e)
     go immediate f = other _ refl (sym (later-rows (consistent r) _ k) ∙ reply-one (first (immediateRows r)) f)
     go (threshold s t d q) f = other _ refl (sym (later-rows (consistent r) _ k) ∙ verdict-one (first (thresholdRows r s t d q)) _ f)
     go (write time room) f = other _ refl (sym (later-rows (consistent r) _ k) ∙ reply-one (first (writeRows r time room)) f)
+    go (confirm n) f = other _ refl (sym (later-rows (consistent r) _ k) ∙ reply-one (first (confirmRows r n)) f)

@@ -9,7 +9,7 @@ use native.Mathlib.Numerals.{add-one}
 use lib.ListN.{length, getD}
 use lib.Seq.{ext-getD}
 use Rattle.wire.proofs.Lengths.{split}
-use Rattle.promises.specs.Accepted.{Packet}
+use Rattle.promises.specs.Sequence.{Calls}
 use Rattle.promises.specs.Acknowledged.{smallestAt, largestAt, MaximalRuns, OneList}
 use Rattle.promises.proofs.Truth.{by-same}
 
@@ -19,7 +19,7 @@ record Same (xs : List ℕ) (i : ℕ) (ys : List ℕ) (j : ℕ) : Type 0 where
   largest : largestAt xs i ≡ largestAt ys j
 
 -- a later run lies below
-below : {ps : List Packet} {a : ℕ} {xs : List ℕ} → MaximalRuns ps a xs → (i j : ℕ) → i < j → j < a → largestAt xs j < smallestAt xs i
+below : {cs : Calls} {a : ℕ} {xs : List ℕ} → MaximalRuns cs a xs → (i j : ℕ) → i < j → j < a → largestAt xs j < smallestAt xs i
 below v i zero l k = absurd (omega arith)
 below {xs = xs} v i (suc j) l k =
     let next : largestAt xs (suc j) + 2 ≤ smallestAt xs j = rw (add-one j) at (v .newest j (omega arith)) in
@@ -28,7 +28,7 @@ below {xs = xs} v i (suc j) l k =
     (λ e. omega (arith, below v i j (omega (arith, e)) (omega arith), v .holds j (omega arith)))
 
 -- a run of the one is a run of the other
-matched : {ps : List Packet} {a b : ℕ} {xs ys : List ℕ} → MaximalRuns ps a xs → MaximalRuns ps b ys → (i : ℕ) → i < a → (j : ℕ) × (j < b) × Same xs i ys j
+matched : {cs : Calls} {a b : ℕ} {xs ys : List ℕ} → MaximalRuns cs a xs → MaximalRuns cs b ys → (i : ℕ) → i < a → (j : ℕ) × (j < b) × Same xs i ys j
 matched {xs = xs} {ys = ys} v w i l =
     let top : ℕ = largestAt xs i in
     let f = w .all top (v .run i l top (v .holds i l) (le-refl top)) in
@@ -53,7 +53,7 @@ matched {xs = xs} {ys = ys} v w i l =
     )
 
 -- the k-th is the k-th, where all before it are
-module _ {ps : List Packet} {a b : ℕ} {xs ys : List ℕ} (v : MaximalRuns ps a xs) (w : MaximalRuns ps b ys) where
+module _ {cs : Calls} {a b : ℕ} {xs ys : List ℕ} (v : MaximalRuns cs a xs) (w : MaximalRuns cs b ys) where
   next : (k : ℕ) → ((i : ℕ) → i < k → Same xs i ys i) → k < a → (k < b) × Same xs k ys k
   next k same l =
       let f = matched v w k l in

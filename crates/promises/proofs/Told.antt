@@ -4,6 +4,7 @@ use Prim.Native.Nat.{ℕ, _^_, _≤_, _<_, min}
 use mathlib.Core.Path.{_≡_, refl, sym, ap, _∙_}
 use mathlib.Core.Bool.{Bool, false}
 use mathlib.Core.List.{List, [], _∷_}
+use native.Mathlib.Nat.{le-max-right}
 use native.Mathlib.Omega.{arith}
 use lib.ListN.{length}
 use Rattle.wire.proofs.Lengths.{split}
@@ -13,7 +14,7 @@ use Rattle.seen.specs.declared.Micros.{Micros}
 use Rattle.seen.specs.declared.Seen.{Seen}
 use Rattle.receiver.specs.declared.Pending.{Pending}
 use Rattle.receiver.specs.declared.Receiver.{Receiver}
-use Rattle.seen.specs.Received.{floor, placeOf, received}
+use Rattle.seen.specs.Received.{floor, floorOf, placeOf, received}
 use Rattle.promises.specs.Sequence.{packet, threshold, Calls, accepted, after, replied, opening}
 use Rattle.promises.specs.Accepted.{Packet, acceptedOf, packets, since, frames}
 use Rattle.promises.specs.Told.{largest, elicitingOf, among, firstArrival, largestSequence, seenOf, leftArrival, pendingOf, tell, Told}
@@ -43,7 +44,7 @@ module _ (t q : ℕ) (m : Millis) (u : Micros) (cs : Calls) where
   window-is n l h =
       let f : after o cs .seen .end ≡ largest (packets acc) = end-is t q m u cs in
       ap (λ (s : Seen). received s n) (seen-is t q m u cs) ∙ ap (λ (w : ℕ). isSet w (placeOf (largest (packets acc)) n)) (told-value (packets acc))
-      ∙ told-number (packets acc) n (omega arith)
+      ∙ told-number (packets acc) n (omega (arith, le-max-right (after o cs .seen .confirmed) (floorOf (after o cs .seen .end))))
 
   once : (n : ℕ) (time : Micros) (eliciting marked : Bool) → replied o cs (packet n time eliciting marked) ≡ accepted → among (packets acc) n ≡ false
   once n time eliciting marked e =

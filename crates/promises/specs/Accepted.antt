@@ -5,7 +5,7 @@ use mathlib.Core.Bool.{Bool}
 use mathlib.Core.List.{List, [], _∷_}
 use Rattle.seen.specs.declared.Micros.{Micros}
 use Rattle.receiver.specs.declared.Receiver.{Receiver}
-use Rattle.promises.specs.Sequence.{Call, packet, timer, immediate, threshold, write, Calls, none, _then_, Reply, accepted, stale, refused, replied}
+use Rattle.promises.specs.Sequence.{Call, packet, timer, immediate, threshold, write, confirm, Calls, none, _then_, Reply, accepted, stale, refused, replied}
 
 -- a call joins the others only where it was accepted
 abbrev pub joined : Reply → Calls → Call → Calls
@@ -46,6 +46,7 @@ packets (cs then timer time) = packets cs
 packets (cs then immediate) = packets cs
 packets (cs then threshold s t d q) = packets cs
 packets (cs then write time room) = packets cs
+packets (cs then confirm k) = packets cs
 
 -- the packets "since the last written ACK", all of them where none was written
 unfoldable pub since : Calls → List Packet
@@ -55,6 +56,7 @@ since (cs then timer time) = since cs
 since (cs then immediate) = since cs
 since (cs then threshold s t d q) = since cs
 since (cs then write time room) = []
+since (cs then confirm k) = since cs
 
 -- the packets before the last written ACK, none where none was written
 unfoldable pub before : Calls → List Packet
@@ -64,6 +66,7 @@ before (cs then timer time) = before cs
 before (cs then immediate) = before cs
 before (cs then threshold s t d q) = before cs
 before (cs then write time room) = packets cs
+before (cs then confirm k) = before cs
 
 -- the threshold frames
 unfoldable pub frames : Calls → List Frame
@@ -73,3 +76,4 @@ frames (cs then timer time) = frames cs
 frames (cs then immediate) = frames cs
 frames (cs then threshold s t d q) = frameOf s t d q ∷ frames cs
 frames (cs then write time room) = frames cs
+frames (cs then confirm k) = frames cs

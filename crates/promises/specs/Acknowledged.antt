@@ -1,4 +1,4 @@
--- Acknowledged: what a written ACK tells after any calls from any opening. Read back, its frame holds the newest maximal runs of the accepted numbers, from the floor up to the largest, and as many of them as fit.
+-- Acknowledged: what a written ACK tells after any calls from any opening. Read back, its frame holds the newest maximal runs of the accepted numbers, from the floor up to the largest (02, No. 12: what the sender confirmed is below it), and as many of them as fit.
 use Prim.Native.Nat.{ℕ, _+_, _-_, _*_, _≤_, _<_}
 use mathlib.Core.Path.{_≡_}
 use mathlib.Core.Bool.{true}
@@ -10,18 +10,17 @@ use Rattle.frames.specs.Ack.{ackNumbers, readAck}
 use Rattle.frames.specs.declared.Ack.the-variants.{Frame}
 use Rattle.receiver.specs.declared.Millis.{Millis}
 use Rattle.seen.specs.declared.Micros.{Micros}
-use Rattle.seen.specs.Received.{floorOf}
 use Rattle.seen.specs.Ack.{ackDelay}
 use Rattle.receiver.specs.Write.{writeAnswer, writeBytes}
 use Rattle.promises.specs.Sequence.{write, Calls, accepted, after, replied, opening}
-use Rattle.promises.specs.Accepted.{Packet, acceptedOf, packets}
-use Rattle.promises.specs.Told.{largest, among, seenOf}
+use Rattle.promises.specs.Accepted.{acceptedOf, packets}
+use Rattle.promises.specs.Told.{largest, among, floorIn, seenOf}
 
 -- ---- the runs of the accepted numbers
 
 -- an accepted number "from the floor [..] up to L"
-abbrev pub InWindow : List Packet → ℕ → Type 0
-InWindow ps n = (floorOf (largest ps) ≤ n) × (among ps n ≡ true)
+abbrev pub InWindow : Calls → ℕ → Type 0
+InWindow cs n = (floorIn cs ≤ n) × (among (packets cs) n ≡ true)
 
 -- the smallest and the largest number of the run at i in a list of such pairs, the first run being at 0
 abbrev pub smallestAt : List ℕ → ℕ → ℕ
@@ -31,22 +30,22 @@ abbrev pub largestAt : List ℕ → ℕ → ℕ
 largestAt runs i = getD runs (2 * i + 1) 0
 
 -- the list holds all the maximal runs, `count` of them, newest first
-pub record MaximalRuns (ps : List Packet) (count : ℕ) (runs : List ℕ) : Type 0 where
+pub record MaximalRuns (cs : Calls) (count : ℕ) (runs : List ℕ) : Type 0 where
   pub pairs : 2 * count ≡ length runs
   -- a run holds a number, and every number of it was accepted
   pub holds : (i : ℕ) → i < count → smallestAt runs i ≤ largestAt runs i
-  pub run : (i : ℕ) → i < count → (n : ℕ) → smallestAt runs i ≤ n → n ≤ largestAt runs i → InWindow ps n
+  pub run : (i : ℕ) → i < count → (n : ℕ) → smallestAt runs i ≤ n → n ≤ largestAt runs i → InWindow cs n
   -- the numbers next to it were not, or are below the floor
-  pub above : (i : ℕ) → i < count → InWindow ps (largestAt runs i + 1) → ⊥
-  pub below : (i : ℕ) → i < count → (n : ℕ) → n + 1 ≡ smallestAt runs i → InWindow ps n → ⊥
+  pub above : (i : ℕ) → i < count → InWindow cs (largestAt runs i + 1) → ⊥
+  pub below : (i : ℕ) → i < count → (n : ℕ) → n + 1 ≡ smallestAt runs i → InWindow cs n → ⊥
   -- newest first, with a missing number between one and the next
   pub newest : (i : ℕ) → i + 1 < count → largestAt runs (i + 1) + 2 ≤ smallestAt runs i
   -- every accepted number lies in one
-  pub all : (n : ℕ) → InWindow ps n → (i : ℕ) × (i < count) × (smallestAt runs i ≤ n) × (n ≤ largestAt runs i)
+  pub all : (n : ℕ) → InWindow cs n → (i : ℕ) × (i < count) × (smallestAt runs i ≤ n) × (n ≤ largestAt runs i)
 
 -- there is only one such list
 abbrev pub OneList : Type 0
-OneList = (ps : List Packet) (a b : ℕ) (xs ys : List ℕ) → MaximalRuns ps a xs → MaximalRuns ps b ys → xs ≡ ys
+OneList = (cs : Calls) (a b : ℕ) (xs ys : List ℕ) → MaximalRuns cs a xs → MaximalRuns cs b ys → xs ≡ ys
 
 -- ---- the frame
 
@@ -58,7 +57,7 @@ ackOf delay runs k = encodeAll (ackNumbers delay (take (2 * k) runs))
 pub record Acknowledges (cs : Calls) (time : Micros) (room : ℕ) (bytes : List ℕ) (used : ℕ) : Type 0 where
   pub count : ℕ
   pub runs : List ℕ
-  pub maximal : MaximalRuns (packets cs) count runs
+  pub maximal : MaximalRuns cs count runs
   -- how many of the runs it holds: "the first range is always there"
   pub kept : ℕ
   pub first : (0 < kept) × (kept ≤ count)

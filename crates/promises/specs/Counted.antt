@@ -9,7 +9,7 @@ use Rattle.receiver.specs.declared.Millis.{Millis}
 use Rattle.seen.specs.declared.Micros.{Micros}
 use Rattle.receiver.specs.Calls.{openCall}
 use Rattle.receiver.specs.Packet.{startsCongestion}
-use Rattle.promises.specs.Sequence.{Call, packet, timer, immediate, threshold, write, Calls, none, _then_}
+use Rattle.promises.specs.Sequence.{Call, packet, timer, immediate, threshold, write, confirm, Calls, none, _then_}
 use Rattle.promises.specs.Accepted.{Frame, packets, frames}
 use Rattle.promises.specs.Told.{elicitingOf, lastMark, noFrame}
 use Rattle.promises.specs.Passed.{oneIf, passedOver}
@@ -32,6 +32,7 @@ C (cs then timer time) = C cs
 C (cs then immediate) = C cs
 C (cs then threshold sequence t delay q) = C cs
 C (cs then write time room) = C cs
+C (cs then confirm k) = C cs
 
 -- ---- of the threshold frames
 
@@ -65,6 +66,7 @@ isImmediate (timer time) = false
 isImmediate immediate = true
 isImmediate (threshold sequence t delay q) = false
 isImmediate (write time room) = false
+isImmediate (confirm k) = false
 
 abbrev pub isTimer : Call → Bool
 isTimer (packet n time eliciting marked) = false
@@ -72,6 +74,7 @@ isTimer (timer time) = true
 isTimer immediate = false
 isTimer (threshold sequence t delay q) = false
 isTimer (write time room) = false
+isTimer (confirm k) = false
 
 -- a call to write an acknowledgment; it is written where the call is accepted
 abbrev pub isWrite : Call → Bool
@@ -80,6 +83,7 @@ isWrite (timer time) = false
 isWrite immediate = false
 isWrite (threshold sequence t delay q) = false
 isWrite (write time room) = true
+isWrite (confirm k) = false
 
 -- "I accepted IMMEDIATE_ACK frames and D timer calls"
 abbrev pub I : Calls → ℕ

@@ -9,9 +9,9 @@ use Rattle.seen.specs.declared.Micros.{Micros}
 use Rattle.receiver.specs.declared.Receiver.{Receiver}
 use Rattle.receiver.specs.Packet.{startsCongestion, nothingAgreed, standing, firstCause}
 use Rattle.receiver.specs.Calls.{timerDue}
-use Rattle.promises.specs.Sequence.{packet, timer, immediate, threshold, write, Calls, none, _then_, after, opening}
+use Rattle.promises.specs.Sequence.{packet, timer, immediate, threshold, write, confirm, Calls, none, _then_, after, opening}
 use Rattle.promises.specs.Accepted.{acceptedOf, packets, since, before, frames}
-use Rattle.promises.specs.Told.{largest, elicitingOf, lastMark, inForce, seenOf, pendingOf, tell}
+use Rattle.promises.specs.Told.{largest, elicitingOf, lastMark, inForce, floorIn, seenOf, pendingOf, tell}
 use Rattle.promises.specs.Order.{orderOf}
 
 -- what the calls tell, no cause among it
@@ -32,6 +32,7 @@ due opened (cs then timer time) = standing (due opened cs) (pick (timerDue (know
 due opened (cs then immediate) = standing (due opened cs) 1
 due opened (cs then threshold s t d q) = due opened cs
 due opened (cs then write time room) = 0
+due opened (cs then confirm k) = due opened cs
 
 -- the same in numbers, from the lists alone: 2, N > T; 3, order; 4, congestion
 abbrev pub inNumbers : Receiver → Calls → ℕ → Micros → Bool → ℕ
@@ -39,7 +40,7 @@ inNumbers opened cs n time marked =
     let values = inForce (opened .agreed) (frames cs) in
     let now = cs then packet n time true marked in
     pick (ltb (values .threshold) (pendingOf now .count)) 2
-    (pick (orderOf (packets now) (values .reordering) n (largest (elicitingOf (packets cs))) (largest (before cs)) (largest (elicitingOf (since now)))) 3
+    (pick (orderOf (floorIn now) (packets now) (values .reordering) n (largest (elicitingOf (packets cs))) (largest (before cs)) (largest (elicitingOf (since now)))) 3
     (pick (startsCongestion marked (nothingAgreed values) (lastMark (packets cs))) 4 0))
 
 pub record Due : Type 0 where

@@ -3,6 +3,7 @@ pub mod Accepted
 pub mod Kept
 pub mod Unchanged
 pub mod Told
+pub mod Floor
 pub mod Replies
 pub mod Acknowledged
 pub mod Order

@@ -9,11 +9,11 @@ use Rattle.window.specs.declared.Missing.the-variants.{At, Nothing}
 use Rattle.receiver.specs.declared.Millis.{Millis}
 use Rattle.seen.specs.declared.Micros.{Micros}
 use Rattle.receiver.specs.declared.Receiver.{Receiver}
-use Rattle.seen.specs.Received.{floorOf, isAny}
+use Rattle.seen.specs.Received.{isAny}
 use Rattle.receiver.specs.Packet.{order}
 use Rattle.promises.specs.Sequence.{packet, write, Calls, none, _then_, accepted, after, replied, opening}
 use Rattle.promises.specs.Accepted.{Packet, packets}
-use Rattle.promises.specs.Told.{largest, among, seenOf}
+use Rattle.promises.specs.Told.{largest, among, floorIn, seenOf}
 
 -- the smallest of k numbers from n on that is not among the packets
 unfoldable pub missingFrom : List Packet → ℕ → ℕ → Missing
@@ -21,24 +21,24 @@ missingFrom ps zero n = Nothing
 missingFrom ps (suc k) n = elim (among ps n) [ true ↦ missingFrom ps k (suc n) | false ↦ At n ]
 
 -- "missing numbers are sought only in the window", from the floor up to L: the smallest from `from` up to below `to`
-unfoldable pub smallestMissing : List Packet → ℕ → ℕ → Missing
-smallestMissing ps from to = missingFrom ps (min to (largest ps) - max from (floorOf (largest ps))) (max from (floorOf (largest ps)))
+unfoldable pub smallestMissing : ℕ → List Packet → ℕ → ℕ → Missing
+smallestMissing floor ps from to = missingFrom ps (min to (largest ps) - max from floor) (max from floor)
 
 -- "U - m >= R", where U's end is `end`
 abbrev pub farBelow : ℕ → ℕ → Missing → Bool
 farBelow reach end (At m) = leb (m + reach) (end - 1)
 farBelow reach end Nothing = false
 
--- "3, order": the packets with this one, R, this one's number, the earlier H, A and U
-unfoldable pub orderOf : List Packet → ℕ → ℕ → ℕ → ℕ → ℕ → Bool
-orderOf ps zero n highest acknowledged end = false
-orderOf ps (suc zero) n highest acknowledged end = ltb (n + 1) highest || isAny (smallestMissing ps highest n)
-orderOf ps (suc (suc r)) n highest acknowledged end =
-    farBelow (min (suc (suc r)) 1023) end (smallestMissing ps (acknowledged - min (suc (suc r)) 1023) (end - 1))
+-- "3, order": the floor and the packets with this one, R, this one's number, the earlier H, A and U
+unfoldable pub orderOf : ℕ → List Packet → ℕ → ℕ → ℕ → ℕ → ℕ → Bool
+orderOf floor ps zero n highest acknowledged end = false
+orderOf floor ps (suc zero) n highest acknowledged end = ltb (n + 1) highest || isAny (smallestMissing floor ps highest n)
+orderOf floor ps (suc (suc r)) n highest acknowledged end =
+    farBelow (min (suc (suc r)) 1023) end (smallestMissing floor ps (acknowledged - min (suc (suc r)) 1023) (end - 1))
 
 -- the line that the calls go by, on the window that any accepted calls tell, says this
 abbrev pub InNumbers : Type 0
-InNumbers = (cs : Calls) (r n highest acknowledged end : ℕ) → order (seenOf cs) r n highest acknowledged end ≡ orderOf (packets cs) r n highest acknowledged end
+InNumbers = (cs : Calls) (r n highest acknowledged end : ℕ) → order (seenOf cs) r n highest acknowledged end ≡ orderOf (floorIn cs) (packets cs) r n highest acknowledged end
 
 -- ---- U and H
 

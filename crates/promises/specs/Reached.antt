@@ -1,4 +1,4 @@
--- Sequences that meet the premise of demand 3: four reach its bound, and in the last each of three frames makes one number passed over count anew.
+-- Sequences that meet the premise of demand 3: five reach its bound, in one each of three frames makes one number passed over count anew, and in the last a confirmation takes nothing from S.
 use Prim.Native.Nat.{ℕ, zero, suc, _+_, _^_}
 use mathlib.Core.Path.{_≡_}
 use mathlib.Core.Bool.{true, false}
@@ -6,7 +6,7 @@ use mathlib.Core.List.{List, [], _∷_}
 use Rattle.receiver.specs.declared.Millis.{Millis}
 use Rattle.seen.specs.declared.Micros.{Micros}
 use Rattle.receiver.specs.declared.Receiver.{Receiver}
-use Rattle.promises.specs.Sequence.{Call, packet, timer, immediate, threshold, write, Calls, none, inOrder, opening}
+use Rattle.promises.specs.Sequence.{Call, packet, timer, immediate, threshold, write, confirm, Calls, none, inOrder, opening}
 use Rattle.promises.specs.Accepted.{acceptedOf}
 use Rattle.promises.specs.Counted.{E, S, F, C, I, D, W, openingT}
 use Rattle.promises.specs.Bound.{onlyDue, bound}
@@ -97,6 +97,10 @@ raisedR =
     ∷ asks 2 4 ∷ arrives 4 ∷ writes
     ∷ []
 
+-- 1 is passed over by 2, and 3 by 4; the confirmation between them raises the floor above 1, and a second one above A is refused (19)
+abbrev pub confirmed : List Call
+confirmed = arrives 0 ∷ arrives 2 ∷ writes ∷ confirm 2 ∷ confirm 3 ∷ arrives 4 ∷ writes ∷ []
+
 -- ---- the statement
 
 -- the bound is reached, and F is needed
@@ -113,3 +117,5 @@ pub record Reached : Type 0 where
   pub refusedOpening : Reaches (2 ^ 62) 0 (arrives 0 ∷ arrives 1 ∷ writes ∷ []) 1
   -- T 9, R 1, then 2, 3, 4: four writes for S = 1
   pub raisedR : Comes 9 1 raisedR 4 1 3 0 4
+  -- T 9, R 1: two writes, and "S [..] still counts all numbers passed over" (02, No. 12), 1 and 3
+  pub confirmed : Comes 9 1 confirmed 3 2 0 0 2

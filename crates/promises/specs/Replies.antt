@@ -10,13 +10,13 @@ use Rattle.receiver.specs.declared.Millis.{Millis}
 use Rattle.seen.specs.declared.Micros.{Micros}
 use Rattle.receiver.specs.declared.Receiver.{Receiver}
 use Rattle.seen.specs.Numbers.{small}
-use Rattle.seen.specs.Received.{floorOf}
+use Rattle.seen.specs.Received.{reported}
 use Rattle.receiver.specs.Record.{delayRule}
 use Rattle.seen.specs.Ack.{frame, ackDelay}
 use Rattle.receiver.specs.Exactly.{row, first, verdictOf}
-use Rattle.promises.specs.Sequence.{Call, packet, timer, immediate, threshold, write, Calls, none, _then_, Reply, replyOf, replyTo, replied, opening}
-use Rattle.promises.specs.Accepted.{joined, acceptedOf, packets, frames}
-use Rattle.promises.specs.Told.{largest, among, largestSequence, seenOf}
+use Rattle.promises.specs.Sequence.{Call, packet, timer, immediate, threshold, write, confirm, Calls, none, _then_, Reply, replyOf, replyTo, replied, opening}
+use Rattle.promises.specs.Accepted.{joined, acceptedOf, packets, before, frames}
+use Rattle.promises.specs.Told.{largest, among, largestSequence, floorIn, seenOf}
 
 -- the rows that concern a call after accepted calls; 1 never comes, and stale comes after every refusal
 unfoldable pub replyAfter : Receiver → Calls → Call → Reply
@@ -24,8 +24,8 @@ replyAfter opened cs (packet n time eliciting marked) =
     replyOf
     (first
     (row 5 (not (small n && small (time .0)))
-    ∷ row 6 (leb (floorOf (largest (packets cs))) n && (ltb n (largest (packets cs)) && among (packets cs) n))
-    ∷ row 7 (ltb n (floorOf (largest (packets cs))))
+    ∷ row 6 (leb (floorIn cs) n && (ltb n (largest (packets cs)) && among (packets cs) n))
+    ∷ row 7 (ltb n (floorIn cs))
     ∷ []))
 replyAfter opened cs (timer time) = replyOf (first (row 5 (not (small (time .0))) ∷ []))
 replyAfter opened cs immediate = replyOf (first (row 8 (eqb (largest (packets cs)) 0) ∷ []))
@@ -38,8 +38,10 @@ replyAfter opened cs (write time room) =
     (first
     (row 5 (not (small (time .0)))
     ∷ row 8 (eqb (largest (packets cs)) 0)
-    ∷ row 9 (ltb room (length (frame (seenOf cs) (ackDelay (seenOf cs) time) 1)))
+    ∷ row 9 (ltb room (length (frame (reported (seenOf cs)) (ackDelay (seenOf cs) time) 1)))
     ∷ []))
+replyAfter opened cs (confirm k) =
+    replyOf (first (row 5 (not (small k)) ∷ row 8 (eqb (largest (packets cs)) 0) ∷ row 19 (leb (largest (before cs)) k) ∷ []))
 
 -- the accepted calls, by these rows
 unfoldable pub acceptedAfter : Receiver → Calls → Calls

@@ -11,6 +11,7 @@ use Rattle.receiver.specs.declared.Verdict.{Verdict}
 use Rattle.receiver.specs.declared.Verdict.the-variants.{Accepted, Stale, Refused}
 use Rattle.receiver.specs.Packet.{packetCall}
 use Rattle.receiver.specs.Calls.{openCall, timerCall, immediateCall, thresholdCall}
+use Rattle.receiver.specs.Confirm.{confirmCall}
 use Rattle.receiver.specs.Write.{writeRefusal, answered, writeAnswer}
 
 -- a call and its arguments; of a write's lent buffer only the length, the room, matters to the record
@@ -20,6 +21,7 @@ pub data Call : Type 0 where
   immediate : Call
   threshold : ℕ → ℕ → Micros → ℕ → Call
   write : Micros → ℕ → Call
+  confirm : ℕ → Call
 
 -- what a call is answered: "stale" is an answer of its own, neither accepted nor refused
 pub data Reply : Type 0 where
@@ -50,8 +52,9 @@ step r (threshold sequence t delay q) =
     record { reply = replyTo (thresholdCall r sequence t delay q .verdict); next = thresholdCall r sequence t delay q .next }
 step r (write time room) =
     record { reply = replyOf (answered (writeRefusal r time room) r [] .result); next = answered (writeRefusal r time room) r [] .next }
+step r (confirm k) = record { reply = replyOf (confirmCall r k .result); next = confirmCall r k .next }
 
--- the last line is what the write call answers, whatever the lent buffer holds
+-- the line of a write is what the write call answers, whatever the lent buffer holds
 abbrev pub WriteIsStep : Type 0
 WriteIsStep =
     (r : Receiver) (time : Micros) (xs : List ℕ)

@@ -1,6 +1,6 @@
 -- Told: after any calls from an opening the record says exactly what the accepted calls say.
 -- Each quantity is read from the lists of accepted packets and frames; what may be absent is an end, one past the number, and 0 for none.
-use Prim.Native.Nat.{ℕ, zero, suc, _+_, _^_, _≤_, _<_, min, max}
+use Prim.Native.Nat.{ℕ, zero, suc, _+_, _-_, _^_, _≤_, _<_, min, max}
 use mathlib.Core.Path.{_≡_}
 use mathlib.Core.Bool.{Bool, true, false, _&&_, _||_}
 use mathlib.Core.List.{List, [], _∷_}
@@ -14,9 +14,9 @@ use Rattle.seen.specs.declared.Seen.{Seen}
 use Rattle.receiver.specs.declared.Pending.{Pending}
 use Rattle.receiver.specs.declared.Agreed.{Agreed}
 use Rattle.receiver.specs.declared.Receiver.{Receiver}
-use Rattle.seen.specs.Received.{floor, received}
+use Rattle.seen.specs.Received.{floor, floorOf, received}
 use Rattle.seen.specs.Ack.{numberAt}
-use Rattle.promises.specs.Sequence.{packet, timer, immediate, threshold, write, Calls, none, _then_, accepted, after, replied, opening}
+use Rattle.promises.specs.Sequence.{packet, timer, immediate, threshold, write, confirm, Calls, none, _then_, accepted, after, replied, opening}
 use Rattle.promises.specs.Accepted.{Packet, Frame, acceptedOf, packets, since, before, frames}
 
 -- ---- of a list of packets
@@ -85,9 +85,23 @@ inForce opened (f ∷ fs) = pick (ltb (f .sequence) (largestSequence fs)) (inFor
 
 -- ---- of the accepted calls
 
--- L with its arrival time, and the window
+-- the record's own floor: each confirmation raises it "to k + 1, or to L where k is L" (02, No. 12), L being the largest number accepted until then
+unfoldable pub confirmedOf : Calls → ℕ
+confirmedOf none = 0
+confirmedOf (cs then packet n time eliciting marked) = confirmedOf cs
+confirmedOf (cs then timer time) = confirmedOf cs
+confirmedOf (cs then immediate) = confirmedOf cs
+confirmedOf (cs then threshold s t d q) = confirmedOf cs
+confirmedOf (cs then write time room) = confirmedOf cs
+confirmedOf (cs then confirm k) = max (confirmedOf cs) (min (k + 1) (largest (packets cs) - 1))
+
+-- the floor in use: "the larger of it and the window's own floor"
+abbrev pub floorIn : Calls → ℕ
+floorIn cs = max (confirmedOf cs) (floorOf (largest (packets cs)))
+
+-- L with its arrival time, the window and the floor
 unfoldable pub seenOf : Calls → Seen
-seenOf cs = record { window = windowOf (marks (isMarked (packets cs)) places); end = largest (packets cs); arrived = arrivalOf (packets cs) }
+seenOf cs = record { window = windowOf (marks (isMarked (packets cs)) places); end = largest (packets cs); arrived = arrivalOf (packets cs); confirmed = confirmedOf cs }
 
 -- the first arrival as the last written ACK left it: it means nothing until an ack-eliciting packet comes
 unfoldable pub leftArrival : Calls → Micros
@@ -97,6 +111,7 @@ leftArrival (cs then timer time) = leftArrival cs
 leftArrival (cs then immediate) = leftArrival cs
 leftArrival (cs then threshold s t d q) = leftArrival cs
 leftArrival (cs then write time room) = firstArrival (leftArrival cs) (elicitingOf (since cs))
+leftArrival (cs then confirm k) = leftArrival cs
 
 -- N ("At 2^62, N stays"), U, and the first arrival
 unfoldable pub pendingOf : Calls → Pending
@@ -107,7 +122,7 @@ pendingOf cs =
       first = firstArrival (leftArrival cs) (elicitingOf (since cs));
     }
 
--- the record that the accepted calls tell, with a cause: L and the window; N, U and the first arrival; T, R, delay and sequence in force;
+-- the record that the accepted calls tell, with a cause: L, the window and the floor; N, U and the first arrival; T, R, delay and sequence in force;
 -- the own limits; A, which was L at the last written ACK; H; the last packet's CE mark
 abbrev pub tell : Receiver → Calls → ℕ → Receiver
 tell opened cs cause =

@@ -16,7 +16,7 @@ use Rattle.seen.specs.declared.Seen.{Seen}
 use Rattle.receiver.specs.declared.Limits.{Limits}
 use Rattle.receiver.specs.declared.Pending.{Pending}
 use Rattle.seen.specs.Numbers.{small, smallEnd}
-use Rattle.seen.specs.Received.{seenConsistent, numbersObey, marksConsistent}
+use Rattle.seen.specs.Received.{seenConsistent, floorFits, numbersObey, marksConsistent}
 use Rattle.receiver.specs.Record.{limitsRule, delayRule, pendingConsistent, agreedConsistent, consistent, microsOf}
 use Rattle.receiver.specs.Consistent.{Consistent, ConsistentExactly}
 
@@ -95,6 +95,7 @@ says r e =
     seven (seenConsistent s) (pendingConsistent p (s .end)) (limitsRule (r .limits)) (agreedConsistent (r .agreed) (r .limits)) (leb (r .acknowledged) (s .end)) (leb (r .highest) (s .end))
     (pick (eqb (s .end) 0) (eqb (r .cause) 0) (leb (r .cause) 5)) e in
     let kn = left (numbersObey s) (marksConsistent s) (k .0) in
+    let ks = right (smallEnd (s .end)) (small (s .arrived .0) && floorFits s) kn in
     let km = right (numbersObey s) (marksConsistent s) (k .0) in
     let kp = four (smallEnd (p .count)) (small (p .first .0)) (leb (p .end) (s .end)) (pick (eqb (p .count) 0) (eqb (p .end) 0) (not (eqb (p .end) 0))) (k .1) in
     let ka = four (small (r .agreed .threshold)) (small (r .agreed .reordering)) (smallEnd (r .agreed .sequence)) (delayRule (r .limits) (r .agreed .delay)) (k .3) in
@@ -102,8 +103,8 @@ says r e =
     let d : Bool = leb (r .limits .minimum .0) (r .agreed .delay .0) in
     let kc = cause-says (s .end) (r .cause) (k .6) in
     record {
-      largest = leb-true _ _ (left (smallEnd (s .end)) (small (s .arrived .0)) kn);
-      arrived = leb-true _ _ (right (smallEnd (s .end)) (small (s .arrived .0)) kn);
+      largest = leb-true _ _ (left (smallEnd (s .end)) (small (s .arrived .0) && floorFits s) kn);
+      arrived = leb-true _ _ (left (small (s .arrived .0)) (floorFits s) ks);
       first = leb-true _ _ (kp .1);
       threshold = leb-true _ _ (ka .0);
       reordering = leb-true _ _ (ka .1);
@@ -120,6 +121,7 @@ says r e =
       absent = absent-says (p .count) (p .end) (kp .3);
       own = own-says (s .end) (isSet w 1023) (right (noneBelow (1024 - s .end) w) (eqb (s .end) 0 || isSet w 1023) km);
       below = none-says (1024 - s .end) w (left (noneBelow (1024 - s .end) w) (eqb (s .end) 0 || isSet w 1023) km);
+      floor = leb-true _ _ (right (small (s .arrived .0)) (floorFits s) ks);
       nothing = kc .1;
     }
 
@@ -139,7 +141,7 @@ agreed-holds r k =
     join (le-leb _ _ (k .threshold)) (join (le-leb _ _ (k .reordering)) (join (le-leb _ _ (k .sequence)) (join (lt-ltb _ _ (k .delay)) (le-leb _ _ (k .least)))))
 
 pub numbers-hold : (r : Receiver) → Consistent r → numbersObey (r .seen) ≡ true
-numbers-hold r k = join (le-leb _ _ (k .largest)) (le-leb _ _ (k .arrived))
+numbers-hold r k = join (le-leb _ _ (k .largest)) (join (le-leb _ _ (k .arrived)) (le-leb _ _ (k .floor)))
 
 pub pending-holds : (r : Receiver) → Consistent r → pendingConsistent (r .pending) (r .seen .end) ≡ true
 unfolding pendingConsistent

@@ -11,7 +11,7 @@ use lib.ListN.{length, drop}
 use Rattle.wire.proofs.Lengths.{split}
 use Rattle.seen.specs.declared.Micros.{Micros}
 use Rattle.seen.specs.Numbers.{small}
-use Rattle.seen.specs.Received.{seenConsistent}
+use Rattle.seen.specs.Received.{seenConsistent, reported}
 use Rattle.seen.specs.Ack.{ackDelay, frame, ackRefusal, ackFrame, acked, laid, ackAnswer, ackBytes}
 use Rattle.seen.proofs.Tests.{by-test}
 use Rattle.seen.proofs.Emits.{frame-fits, laid-long, laid-stays, ack-read-back}
@@ -34,7 +34,7 @@ module _ (r : Receiver) (time : Micros) (room : ℕ) where
   rows : writeRefusal r time room ≡ first (writeRows r time room)
   unfolding writeRefusal first
   rows =
-      let n : ℕ = length (frame (r .seen) (ackDelay (r .seen) time) 1) in
+      let n : ℕ = length (frame (reported (r .seen)) (ackDelay (r .seen) time) 1) in
       by-test (consistent r)
       (λ y. by-test (small (time .0))
       (λ t. by-test (eqb (r .seen .end) 0)
@@ -93,6 +93,7 @@ still r c =
       absent = (λ e. refl, λ e. refl);
       own = c .own;
       below = c .below;
+      floor = c .floor;
       nothing = λ e. refl;
     }
 

@@ -15,9 +15,12 @@ use Rattle.receiver.specs.declared.Receiver.{Receiver}
 use Rattle.receiver.specs.declared.Verdict.{Verdict}
 use Rattle.receiver.specs.declared.Verdict.the-variants.{Accepted, Stale, Refused}
 use Rattle.seen.specs.Numbers.{small}
-use Rattle.seen.specs.Received.{floor, received, numberRefusal}
-use Rattle.receiver.specs.Record.{limitsRule, delayRule, consistent}
+use Rattle.seen.specs.Received.{floor, received, seenConsistent, numberRefusal}
+use Rattle.seen.proofs.Ranges.{both}
+use Rattle.seen.proofs.Reported.{floor-at-most}
+use Rattle.receiver.specs.Record.{limitsRule, delayRule, restConsistent, consistent}
 use Rattle.receiver.specs.Packet.{packetRefusal, packetAfter, packetCall, handedBack}
+use Rattle.receiver.specs.Confirm.{confirmRefusal, confirmAfter, confirmCall}
 use Rattle.receiver.specs.Calls.{opened, usual, openRefusal, openCall, timerRefusal, timerAfter, timerCall, immediateRefusal, immediateAfter, immediateCall, agreedAfter, thresholdVerdict, thresholdCall, heard}
 use Rattle.receiver.specs.Exactly.{Row, row, first, packetRows, Exactly, Unchanged, verdictOf}
 
@@ -50,21 +53,38 @@ unfolding first
 next-test true k n rows e = e
 next-test false k n rows e = refl
 
--- 6 and 7
-number-rows : (s : Seen) (n : ℕ)
+-- the same where the later rows are judged only once the test has held
+after-test : (a : Bool) (k n : ℕ) (rows : List Row) → (a ≡ true → n ≡ first rows) → pick a n k ≡ first (row k (not a) ∷ rows)
+unfolding first
+after-test true k n rows f = f refl
+after-test false k n rows f = refl
+
+-- 6 and 7; the floor of a consistent record is at most L
+number-rows : (s : Seen) (n : ℕ) → floor s ≤ s .end
     → numberRefusal s n ≡ first (row 6 (leb (floor s) n && (ltb n (s .end) && received s n)) ∷ row 7 (ltb n (floor s)) ∷ [])
 unfolding numberRefusal first
-number-rows s n =
+number-rows s n f =
     split (s .end) n
-    (λ h. rw (le-leb (s .end) n h, le-ltb n (s .end) h, le-leb (s .end - 1024) n (omega arith), le-ltb n (s .end - 1024) (omega arith)))
-    (λ h. split (s .end - 1024) n
-    (λ l. rw (lt-leb (s .end) n h, lt-ltb n (s .end) h, le-leb (s .end - 1024) n l, le-ltb n (s .end - 1024) l))
-    (λ l. rw (lt-leb (s .end) n h, lt-leb (s .end - 1024) n l, lt-ltb n (s .end - 1024) l)))
+    (λ h. rw (le-leb (s .end) n h, le-ltb n (s .end) h, le-leb (floor s) n (omega arith), le-ltb n (floor s) (omega arith)))
+    (λ h. split (floor s) n
+    (λ l. rw (lt-leb (s .end) n h, lt-ltb n (s .end) h, le-leb (floor s) n l, le-ltb n (floor s) l))
+    (λ l. rw (lt-leb (s .end) n h, lt-leb (floor s) n l, lt-ltb n (floor s) l)))
+
+below-end : (r : Receiver) → consistent r ≡ true → floor (r .seen) ≤ r .seen .end
+unfolding consistent
+below-end r e = let f = floor-at-most (r .seen) (both (seenConsistent (r .seen)) (restConsistent r) e .0) in omega arith
 
 immediate-rows : (a b : Bool) → pick a (pick b 8 0) 1 ≡ first (row 1 (not a) ∷ row 8 b ∷ [])
 unfolding first
 immediate-rows true b = refl
 immediate-rows false b = refl
+
+-- 8 and 19
+confirm-rows : (a b : Bool) → pick a 8 (pick b 19 0) ≡ first (row 8 a ∷ row 19 b ∷ [])
+unfolding first
+confirm-rows true b = refl
+confirm-rows false true = refl
+confirm-rows false false = refl
 
 threshold-rows : (a b c stale : Bool)
     → pick a (pick b (pick c (pick stale Stale Accepted) (Refused 4)) (Refused 5)) (Refused 1) ≡ verdictOf (first (row 1 (not a) ∷ row 5 (not b) ∷ row 4 (not c) ∷ [])) stale
@@ -75,18 +95,19 @@ threshold-rows true false c stale = refl
 threshold-rows false b c stale = refl
 
 pub exactly : Exactly
-unfolding openCall openRefusal packetCall packetRefusal timerCall timerRefusal immediateCall immediateRefusal thresholdCall thresholdVerdict
+unfolding openCall openRefusal packetCall packetRefusal timerCall timerRefusal immediateCall immediateRefusal thresholdCall thresholdVerdict confirmCall confirmRefusal
 exactly =
     record {
       opening = λ t q m u. result-of (openRefusal t q m u) usual (opened t q m u) ∙ next-test (small t && (small q && (small (m .0) && small (u .0)))) 5 _ _ (one-test (limitsRule (record { maximum = m; minimum = u })) 4);
-      packet = λ r n time eliciting ce. result-of (packetRefusal r n time) r (packetAfter r n time eliciting ce) ∙ next-test (consistent r) 1 _ _ (next-test (small n && small (time .0)) 5 _ _ (number-rows (r .seen) n));
+      packet = λ r n time eliciting ce. result-of (packetRefusal r n time) r (packetAfter r n time eliciting ce) ∙ after-test (consistent r) 1 _ _ (λ e. next-test (small n && small (time .0)) 5 _ _ (number-rows (r .seen) n (below-end r e)));
       timer = λ r time. result-of (timerRefusal r time) r (timerAfter r time) ∙ next-test (consistent r) 1 _ _ (one-test (small (time .0)) 5);
       immediate = λ r. result-of (immediateRefusal r) r (immediateAfter r) ∙ immediate-rows (consistent r) (eqb (r .seen .end) 0);
       threshold = λ r s t d q. verdict-of (thresholdVerdict r s t d q) r (agreedAfter r s t d q) ∙ threshold-rows (consistent r) (small s && (small t && (small (d .0) && small q))) (delayRule (r .limits) d) (ltb s (r .agreed .sequence));
+      confirm = λ r k. result-of (confirmRefusal r k) r (confirmAfter r k) ∙ next-test (consistent r) 1 _ _ (next-test (small k) 5 _ _ (confirm-rows (eqb (r .seen .end) 0) (leb (r .acknowledged) k)));
     }
 
 pub unchanged : Unchanged
-unfolding openCall packetCall timerCall immediateCall thresholdCall
+unfolding openCall packetCall timerCall immediateCall thresholdCall confirmCall
 unchanged =
     record {
       opening = λ t q m u f. kept (openRefusal t q m u) usual (opened t q m u) f;
@@ -94,4 +115,5 @@ unchanged =
       timer = λ r time f. kept (timerRefusal r time) r (timerAfter r time) f;
       immediate = λ r f. kept (immediateRefusal r) r (immediateAfter r) f;
       threshold = λ r s t d q f. heard-kept (thresholdVerdict r s t d q) r (agreedAfter r s t d q) f;
+      confirm = λ r k f. kept (confirmRefusal r k) r (confirmAfter r k) f;
     }

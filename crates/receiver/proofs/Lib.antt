@@ -8,3 +8,4 @@ pub mod Emits
 pub mod Only
 pub mod Examples
 pub mod Settled
+pub mod Confirmed

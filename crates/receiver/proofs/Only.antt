@@ -15,6 +15,8 @@ use Rattle.receiver.proofs.Receiver.immediate.Reads as immediate
 use Rattle.receiver.proofs.Receiver.immediate.Kinds as immediate-kinds
 use Rattle.receiver.proofs.Receiver.threshold.Reads as threshold
 use Rattle.receiver.proofs.Receiver.threshold.Kinds as threshold-kinds
+use Rattle.receiver.proofs.Receiver.confirm.Reads as confirm
+use Rattle.receiver.proofs.Receiver.confirm.Kinds as confirm-kinds
 use Rattle.receiver.proofs.Receiver.write.Reads as write
 use Rattle.receiver.proofs.Receiver.write.Kinds as write-kinds
 
@@ -35,6 +37,9 @@ immediate-one κs given x y s t p q = p ∙ sym q
 
 pub threshold-one : OneAnswer 0 threshold-kinds.ps threshold-kinds.r threshold.Post
 threshold-one κs given x y s t p q = p ∙ sym q
+
+pub confirm-one : OneAnswer 0 confirm-kinds.ps confirm-kinds.r confirm.Post
+confirm-one κs given x y s t p q = p ∙ sym q
 
 pub write-one : OneBuffer 1 write-kinds.ps write-kinds.r (λ κs s. now (s .1 .1 .0)) write.Post
 write-one κs given x y s t p q = (p .0 ∙ sym (q .0), p .1 ∙ sym (q .1))

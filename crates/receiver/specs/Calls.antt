@@ -23,7 +23,7 @@ use Rattle.receiver.specs.Packet.{standing, handedBack}
 unfoldable pub opened : ℕ → ℕ → Millis → Micros → Receiver
 opened threshold reordering maximum minimum =
     record {
-      seen = record { window = windowOf 0; end = 0; arrived = record { 0 = 0 } };
+      seen = record { window = windowOf 0; end = 0; arrived = record { 0 = 0 }; confirmed = 0 };
       pending = record { count = 0; end = 0; first = record { 0 = 0 } };
       agreed = record { threshold = threshold; reordering = reordering; delay = microsOf maximum; sequence = 0 };
       limits = record { maximum = maximum; minimum = minimum };

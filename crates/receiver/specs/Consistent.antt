@@ -34,6 +34,8 @@ pub record Consistent (r : Receiver) : Type 0 where
   -- "L's own place is marked and none below number 0"; "if nothing was received, no place is marked"
   pub own : 0 < r .seen .end → isSet (valueOf (r .seen .window)) (places - 1) ≡ true
   pub below : (place : ℕ) → place < places - r .seen .end → isSet (valueOf (r .seen .window)) place ≡ false
+  -- "the floor is at most L, and 0 while nothing was received" (02, No. 12)
+  pub floor : r .seen .confirmed ≤ r .seen .end - 1
   -- "if nothing was received, [..] A, H and U are absent and N and the cause are 0": the others follow from the clauses above
   pub nothing : r .seen .end ≡ 0 → r .cause ≡ 0
 

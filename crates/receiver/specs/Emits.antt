@@ -7,6 +7,7 @@ use lib.Dec.{ltb, eqb}
 use lib.ListN.{length, drop}
 use Rattle.seen.specs.declared.Micros.{Micros}
 use Rattle.seen.specs.Numbers.{small}
+use Rattle.seen.specs.Received.{reported}
 use Rattle.seen.specs.Ack.{ackDelay, frame, rangesKept}
 use Rattle.seen.specs.Emits.{Emits}
 use Rattle.receiver.specs.declared.Receiver.{Receiver}
@@ -19,7 +20,7 @@ use Rattle.receiver.specs.Write.{writeAnswer, writeBytes}
 abbrev pub WriteReadBack : Type 0
 WriteReadBack =
     (r : Receiver) (time : Micros) (xs : List ℕ) → writeAnswer r time xs .result ≡ 0
-    → Emits (r .seen) time xs (writeBytes r time xs) (writeAnswer r time xs .length) (rangesKept (r .seen) (ackDelay (r .seen) time) (length xs))
+    → Emits (r .seen) time xs (writeBytes r time xs) (writeAnswer r time xs .length) (rangesKept (reported (r .seen)) (ackDelay (r .seen) time) (length xs))
 
 -- ---- the rows of the refusal table, in their order, and what a call leaves
 
@@ -29,7 +30,7 @@ writeRows r time room =
     inconsistent r
     ∷ row 5 (not (small (time .0)))
     ∷ row 8 (eqb (r .seen .end) 0)
-    ∷ row 9 (ltb room (length (frame (r .seen) (ackDelay (r .seen) time) 1)))
+    ∷ row 9 (ltb room (length (frame (reported (r .seen)) (ackDelay (r .seen) time) 1)))
     ∷ []
 
 abbrev pub WriteExactly : Type 0

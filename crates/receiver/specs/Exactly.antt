@@ -14,6 +14,7 @@ use Rattle.seen.specs.Numbers.{small}
 use Rattle.seen.specs.Received.{floor, received}
 use Rattle.receiver.specs.Record.{limitsRule, delayRule, consistent}
 use Rattle.receiver.specs.Packet.{packetCall}
+use Rattle.receiver.specs.Confirm.{notAcknowledged, confirmCall}
 use Rattle.receiver.specs.Calls.{opened, usual, openCall, timerCall, immediateCall, thresholdCall}
 
 -- a row of the table: its number, and whether it applies to the call
@@ -60,6 +61,10 @@ thresholdRows r sequence threshold delay reordering =
     ∷ row 4 (not (delayRule (r .limits) delay))
     ∷ []
 
+abbrev pub confirmRows : Receiver → ℕ → List Row
+confirmRows r k =
+    inconsistent r ∷ row 5 (not (small k)) ∷ row 8 (eqb (r .seen .end) 0) ∷ row 19 (notAcknowledged r k) ∷ []
+
 -- stale comes after every refusal
 abbrev pub verdictOf : ℕ → Bool → Verdict
 verdictOf zero stale = pick stale Stale Accepted
@@ -72,6 +77,7 @@ pub record Exactly : Type 0 where
   pub timer : (r : Receiver) (time : Micros) → timerCall r time .result ≡ first (timerRows r time)
   pub immediate : (r : Receiver) → immediateCall r .result ≡ first (immediateRows r)
   pub threshold : (r : Receiver) (s t : ℕ) (d : Micros) (q : ℕ) → thresholdCall r s t d q .verdict ≡ verdictOf (first (thresholdRows r s t d q)) (ltb s (r .agreed .sequence))
+  pub confirm : (r : Receiver) (k : ℕ) → confirmCall r k .result ≡ first (confirmRows r k)
 
 -- a refused or stale call hands the record back as it came, and a refused opening the usual record
 pub record Unchanged : Type 0 where
@@ -80,3 +86,4 @@ pub record Unchanged : Type 0 where
   pub timer : (r : Receiver) (time : Micros) → (timerCall r time .result ≡ 0 → ⊥) → timerCall r time .next ≡ r
   pub immediate : (r : Receiver) → (immediateCall r .result ≡ 0 → ⊥) → immediateCall r .next ≡ r
   pub threshold : (r : Receiver) (s t : ℕ) (d : Micros) (q : ℕ) → (thresholdCall r s t d q .verdict ≡ Accepted → ⊥) → thresholdCall r s t d q .next ≡ r
+  pub confirm : (r : Receiver) (k : ℕ) → (confirmCall r k .result ≡ 0 → ⊥) → confirmCall r k .next ≡ r

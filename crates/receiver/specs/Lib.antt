@@ -3,7 +3,9 @@ pub mod Consistent
 pub mod Packet
 pub mod Calls
 pub mod Write
+pub mod Confirm
 pub mod Exactly
 pub mod Emits
 pub mod Examples
 pub mod Settled
+pub mod Confirmed

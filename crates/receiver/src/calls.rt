@@ -80,6 +80,7 @@ impl Receiver {
                 window,
                 end: 0,
                 arrived: Micros(0),
+                confirmed: 0,
             },
             pending: Pending {
                 count: 0,

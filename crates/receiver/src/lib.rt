@@ -7,6 +7,7 @@ use seen::Seen;
 
 mod calls;
 mod causes;
+mod confirm;
 mod consistent;
 mod delays;
 mod packet;

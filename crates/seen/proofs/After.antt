@@ -1,4 +1,4 @@
--- What an accepted number leaves: L's end is the larger of the old one and the number's.
+-- What an accepted number leaves: L's end is the larger of the old one and the number's, and the record's own floor stays.
 -- Assumes nothing.
 use Prim.Native.Nat.{ℕ, _+_, _≤_, _<_, max}
 use mathlib.Core.Path.{_≡_}
@@ -27,6 +27,11 @@ module _ (s : Seen) (n : ℕ) (time : Micros) where
 
       omega-le : n < s .end → n + 1 ≤ s .end
       omega-le h = omega arith
+
+  -- the record's own floor stays
+  pub seen-confirmed : seenAfter s n time .confirmed ≡ s .confirmed
+  unfolding seenAfter
+  seen-confirmed = split (s .end) n (λ h. rw (le-ltb n (s .end) h)) (λ h. rw (lt-ltb n (s .end) h))
 
   -- a number that obeys 5 is accepted
   pub with-small : n ≤ limit → pick (small n) (seenAfter s n time) s ≡ seenAfter s n time

@@ -19,11 +19,12 @@ use Rattle.frames.proofs.Back.{ack-back}
 use Rattle.seen.specs.declared.Micros.{Micros}
 use Rattle.seen.specs.declared.Seen.{Seen}
 use Rattle.seen.specs.Numbers.{small}
-use Rattle.seen.specs.Received.{seenConsistent}
+use Rattle.seen.specs.Received.{seenConsistent, reported}
 use Rattle.seen.specs.Ack.{numberAt, ranges, numberOfRanges, ackDelay, frame, fits, rangesKept, ackRefusal, ackFrame, acked, laid, ackAnswer, ackBytes}
 use Rattle.seen.specs.Emits.{AckReadBack}
-use Rattle.seen.proofs.Ranges.{Begun, begun, Bottom, bottom, top, low, missing-pos, size-pos, first-top, down, down-none, down-some}
+use Rattle.seen.proofs.Ranges.{Begun, Bottom, bottom, top, low, missing-pos, size-pos, first-top, down, down-none, down-some}
 use Rattle.seen.proofs.Tests.{by-test}
+use Rattle.seen.proofs.Reported.{begun-reported}
 use Rattle.seen.proofs.Fitting.{first-bottom, first-down, first-rest, kept-says}
 use Rattle.seen.proofs.Written.{some-end, delay-small, gives-one, gives-five, gives-eight, gives-nine}
 
@@ -33,10 +34,10 @@ pub frame-fits : (s : Seen) (time : Micros) (room : ℕ) → length (ackFrame s 
 unfolding frame ackNumbers encodeAll
 frame-fits s time room =
     let d : ℕ = ackDelay s time in
-    let k : ℕ = rangesKept s d room in
+    let k : ℕ = rangesKept (reported s) d room in
     split k 0
-    (λ h. let z : k ≡ 0 = omega arith in omega (arith, ap (λ (n : ℕ). length (frame s d n)) z))
-    (λ h. leb-true (length (frame s d k)) room (kept-says s d room .holds h))
+    (λ h. let z : k ≡ 0 = omega arith in omega (arith, ap (λ (n : ℕ). length (frame (reported s) d n)) z))
+    (λ h. leb-true (length (frame (reported s) d k)) room (kept-says (reported s) d room .holds h))
 
 module _ (bytes xs : List ℕ) where
   pub laid-long : (k : ℕ) → length bytes ≤ length xs → length (laid k xs bytes) ≡ length xs
@@ -55,9 +56,9 @@ result-of (suc k) bytes = refl
 
 -- an accepted write passed every test
 record Passed (s : Seen) (time : Micros) (room : ℕ) : Type 0 where
-  begins : Begun s
+  begins : Begun (reported s)
   timely : small (time .0) ≡ true
-  fitting : fits s (ackDelay s time) room 1 ≡ true
+  fitting : fits (reported s) (ackDelay s time) room 1 ≡ true
 
 other : {a b : ℕ} {P : Type 0} → a ≡ 0 → a ≡ suc b → P
 other e f = absurd (let z = sym e ∙ f in omega arith)
@@ -68,8 +69,8 @@ passed s time room e =
     (λ y. by-test (small (time .0))
     (λ t. by-test (eqb (s .end) 0)
     (λ z. other e (gives-eight s time room y t (eqb-true (s .end) 0 z)))
-    (λ z. by-test (fits s (ackDelay s time) room 1)
-    (λ f. record { begins = begun s y (some-end (eqb-false (s .end) 0 z)); timely = t; fitting = f })
+    (λ z. by-test (fits (reported s) (ackDelay s time) room 1)
+    (λ f. record { begins = begun-reported s y (some-end (eqb-false (s .end) 0 z)); timely = t; fitting = f })
     (λ f. other e (gives-nine s time room y t (eqb-false (s .end) 0 z) f))))
     (λ t. other e (gives-five s time room y t)))
     (λ y. other e (gives-one s time room y))
@@ -126,11 +127,11 @@ module _ {s : Seen} (b : Begun s) where
       let q : length ps / 2 ≡ k = omega arith in
       rw (g, q) at (ack-back delay ps tl zs a d (omega arith))
 
-some-kept-of : (s : Seen) (time : Micros) (xs : List ℕ) → Passed s time (length xs) → 0 < rangesKept s (ackDelay s time) (length xs)
+some-kept-of : (s : Seen) (time : Micros) (xs : List ℕ) → Passed s time (length xs) → 0 < rangesKept (reported s) (ackDelay s time) (length xs)
 some-kept-of s time xs p =
     let d : ℕ = ackDelay s time in
-    let k : ℕ = rangesKept s d (length xs) in
-    let l = kept-says s d (length xs) in
+    let k : ℕ = rangesKept (reported s) d (length xs) in
+    let l = kept-says (reported s) d (length xs) in
     split k 0
     (λ h.
     let f : true ≡ false = sym (p .fitting) ∙ l .above 1 (omega arith) (omega (arith, first-rest (p .begins))) in
@@ -141,14 +142,14 @@ pub ack-read-back : AckReadBack
 unfolding ackAnswer ackBytes
 ack-read-back s time xs e =
     let d : ℕ = ackDelay s time in
-    let k : ℕ = rangesKept s d (length xs) in
+    let k : ℕ = rangesKept (reported s) d (length xs) in
     let z : ackRefusal s time (length xs) ≡ 0 = sym (result-of (ackRefusal s time (length xs)) (ackFrame s time (length xs))) ∙ e in
     let p = passed s time (length xs) z in
-    let l = kept-says s d (length xs) in
+    let l = kept-says (reported s) d (length xs) in
     let h : 0 < k = some-kept-of s time xs p in
     record {
       first = (h, l .within);
-      fits = leb-true (length (frame s d k)) (length xs) (l .holds h);
-      most = λ i. leb-false (length (frame s d (k + 1))) (length xs) (l .above (k + 1) (omega arith) (omega arith));
-      back = λ zs i. rw z (frame-back (p .begins) d k (drop (0 + length (frame s d k)) xs) zs h (l .within) (delay-small time (time .0 - s .arrived .0) (p .timely) (omega arith)) i);
+      fits = leb-true (length (frame (reported s) d k)) (length xs) (l .holds h);
+      most = λ i. leb-false (length (frame (reported s) d (k + 1))) (length xs) (l .above (k + 1) (omega arith) (omega arith));
+      back = λ zs i. rw z (frame-back (p .begins) d k (drop (0 + length (frame (reported s) d k)) xs) zs h (l .within) (delay-small time (time .0 - s .arrived .0) (p .timely) (omega arith)) i);
     }

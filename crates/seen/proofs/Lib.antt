@@ -2,6 +2,7 @@ pub mod Tests
 pub mod Missing
 pub mod After
 pub mod Ranges
+pub mod Reported
 pub mod Fitting
 pub mod Storing
 pub mod Written

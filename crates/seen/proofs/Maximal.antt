@@ -1,22 +1,30 @@
--- The ranges are exactly the maximal runs of received numbers: a chain of runs and gaps from L down to the floor, read off range by range.
+-- The ranges are exactly the maximal runs of received numbers: a chain of runs and gaps from L down, read off range by range, of what is reported.
 -- Assumes nothing.
 use Prim.Native.Nat.{ℕ, zero, suc, _+_, _-_, _*_, _/_, _≤_, _<_}
-use mathlib.Core.Path.{_≡_, refl, sym, _∙_}
-use mathlib.Core.Bool.{true, false}
+use mathlib.Core.Path.{_≡_, refl, sym, ap, _∙_}
+use mathlib.Core.Bool.{Bool, true, false, _&&_}
 use mathlib.Core.List.{List, [], _∷_}
+use native.Mathlib.Nat.{le-max-right}
 use native.Mathlib.Omega.{arith}
+use borrow.Author.Tests.{le-leb, leb-true}
+use lib.Dec.{leb}
 use lib.ListN.{length, getD}
 use Rattle.wire.proofs.Lengths.{split}
 use Rattle.window.specs.Window.{valueOf, isSet}
 use Rattle.window.proofs.Laws.{run-says}
 use Rattle.seen.specs.declared.Seen.{Seen}
-use Rattle.seen.specs.Received.{received}
+use Rattle.seen.specs.Received.{floor, floorOf, received, reported}
 use Rattle.seen.specs.Ack.{numberAt, ranges}
 use Rattle.seen.specs.Emits.{Received, RangesAreRuns}
-use Rattle.seen.proofs.Ranges.{Begun, begun, Bottom, bottom, missing, top, size, low, missing-pos, size-pos, top-sum, low-sum, first-top, down, down-none, down-some}
+use Rattle.seen.proofs.Ranges.{both, Begun, Bottom, bottom, missing, top, size, low, missing-pos, size-pos, top-sum, low-sum, first-top, down, down-none, down-some}
 use Rattle.seen.proofs.Fitting.{first-bottom, first-down}
+use Rattle.seen.proofs.Reported.{begun-reported, received-reported}
 
 -- ---- numbers and their places
+
+-- a number of the window whose place is marked, below the record's own floor too
+abbrev Marked : Seen → ℕ → Type 0
+Marked s n = (floorOf (s .end) ≤ n) × (n < s .end) × (received s n ≡ true)
 
 record Place (s : Seen) (n : ℕ) : Type 0 where
   at : ℕ
@@ -25,10 +33,10 @@ record Place (s : Seen) (n : ℕ) : Type 0 where
   marked : isSet (valueOf (s .window)) at ≡ true
 
 module _ (s : Seen) where
-  place-of : (n : ℕ) → Received s n → Place s n
+  place-of : (n : ℕ) → Marked s n → Place s n
   place-of n r = record { at = n + 1024 - s .end; sum = omega (arith, r .0, r .1); within = omega (arith, r .0, r .1); marked = r .2 }
 
-  received-at : (n q : ℕ) → n + 1024 ≡ q + s .end → q < 1024 → isSet (valueOf (s .window)) q ≡ true → Received s n
+  received-at : (n q : ℕ) → n + 1024 ≡ q + s .end → q < 1024 → isSet (valueOf (s .window)) q ≡ true → Marked s n
   received-at n q e l m = let f : n + 1024 - s .end ≡ q = omega arith in (omega arith, omega arith, rw f m)
 
   -- a number whose place is passed over as missing was not received
@@ -38,23 +46,23 @@ module _ (s : Seen) where
       let z : _≡_ {A = ℕ} 0 1 = cc in omega arith
 
   -- a number whose place is in the run was
-  in-run : (p n q : ℕ) → p ≤ 1024 → n + 1024 ≡ q + s .end → low s p ≤ q → q < top s p → Received s n
+  in-run : (p n q : ℕ) → p ≤ 1024 → n + 1024 ≡ q + s .end → low s p ≤ q → q < top s p → Marked s n
   in-run p n q l e i j =
       received-at n q e (omega arith) (run-says true (top s p) (valueOf (s .window)) (size s p) refl .has q i j)
 
 -- ---- runs and gaps, downwards: below `above` no number is received but those of the ranges, and between two ranges one is missing
 
 data Falls (s : Seen) : ℕ → List ℕ → Type 0 where
-  over : {above : ℕ} → ((n : ℕ) → n < above → Received s n → ⊥) → Falls s above []
-  run : {above lo hi : ℕ} {l : List ℕ} → lo ≤ hi → hi + 2 ≤ above → ((n : ℕ) → hi < n → n < above → Received s n → ⊥)
-      → ((n : ℕ) → lo ≤ n → n ≤ hi → Received s n) → Falls s lo l → Falls s above (lo ∷ hi ∷ l)
+  over : {above : ℕ} → ((n : ℕ) → n < above → Marked s n → ⊥) → Falls s above []
+  run : {above lo hi : ℕ} {l : List ℕ} → lo ≤ hi → hi + 2 ≤ above → ((n : ℕ) → hi < n → n < above → Marked s n → ⊥)
+      → ((n : ℕ) → lo ≤ n → n ≤ hi → Marked s n) → Falls s lo l → Falls s above (lo ∷ hi ∷ l)
 
 module _ {s : Seen} (b : Begun s) where
   number-sum : (p : ℕ) → 1024 ≤ p + s .end → numberAt (s .end) p + 1024 ≡ p + s .end
   number-sum p h = omega arith
 
   -- the numbers of a run were received
-  run-received : (p : ℕ) → p ≤ 1024 → 0 < top s p → (n : ℕ) → numberAt (s .end) (low s p) ≤ n → n ≤ numberAt (s .end) (top s p - 1) → Received s n
+  run-received : (p : ℕ) → p ≤ 1024 → 0 < top s p → (n : ℕ) → numberAt (s .end) (low s p) ≤ n → n ≤ numberAt (s .end) (top s p - 1) → Marked s n
   run-received p l h n i j =
       let x = number-sum (low s p) (bottom b p l h .inside) in
       let z = low-sum s p h in
@@ -63,7 +71,7 @@ module _ {s : Seen} (b : Begun s) where
       in-run s p n (n + 1024 - s .end) l (omega arith) (omega arith) (omega arith)
 
   -- those between a run and the place above it were not
-  gap-missing : (p n : ℕ) → p ≤ 1024 → 0 < top s p → numberAt (s .end) (top s p - 1) < n → n + 1024 < p + s .end → Received s n → ⊥
+  gap-missing : (p n : ℕ) → p ≤ 1024 → 0 < top s p → numberAt (s .end) (top s p - 1) < n → n + 1024 < p + s .end → Marked s n → ⊥
   gap-missing p n l h i j r =
       let q = place-of s n r in
       let x = bottom b p l h .inside in
@@ -76,7 +84,7 @@ module _ {s : Seen} (b : Begun s) where
   run-order p l h = omega (arith, low-sum s p h, size-pos s p h)
 
   -- and none is where nothing is left
-  none-left : (p n : ℕ) → Bottom s p → top s p ≡ 0 → n < numberAt (s .end) p → Received s n → ⊥
+  none-left : (p n : ℕ) → Bottom s p → top s p ≡ 0 → n < numberAt (s .end) p → Marked s n → ⊥
   none-left p n u e i r =
       let q = place-of s n r in
       not-missing s p q (omega arith) (omega (arith, q .sum, number-sum p (u .inside)))
@@ -112,7 +120,7 @@ module _ {s : Seen} (b : Begun s) where
       let g : numberAt (s .end) (top s 1024 - 1) + 2 ≤ s .end + 1 = omega arith in
       rw (first-down b)
       (run (run-order 1024 l h) g
-      (λ (n : ℕ) (i : numberAt (s .end) (top s 1024 - 1) < n) (j : n < s .end + 1) (r : Received s n). gap-missing 1024 n l h i (omega (arith, r .1)) r) (run-received 1024 l h) (falls 1024 (low s 1024) (omega (arith, first-bottom b .below)) (first-bottom b)))
+      (λ (n : ℕ) (i : numberAt (s .end) (top s 1024 - 1) < n) (j : n < s .end + 1) (r : Marked s n). gap-missing 1024 n l h i (omega (arith, r .1)) r) (run-received 1024 l h) (falls 1024 (low s 1024) (omega (arith, first-bottom b .below)) (first-bottom b)))
 
 -- ---- range by range
 
@@ -125,15 +133,15 @@ module _ (x y : ℕ) (l : List ℕ) (i : ℕ) where
 
 record Item (s : Seen) (lo hi : ℕ) : Type 0 where
   holds : lo ≤ hi
-  all : (n : ℕ) → lo ≤ n → n ≤ hi → Received s n
-  above : Received s (hi + 1) → ⊥
-  below : (n : ℕ) → n + 1 ≡ lo → Received s n → ⊥
+  all : (n : ℕ) → lo ≤ n → n ≤ hi → Marked s n
+  above : Marked s (hi + 1) → ⊥
+  below : (n : ℕ) → n + 1 ≡ lo → Marked s n → ⊥
 
 pairs-of : {s : Seen} {a : ℕ} {l : List ℕ} → Falls s a l → 2 * (length l / 2) ≡ length l
 pairs-of (over f) = refl
 pairs-of (run o g m r f) = omega (arith, pairs-of f)
 
-below-of : {s : Seen} {a : ℕ} {l : List ℕ} → Falls s a l → (n : ℕ) → n + 1 ≡ a → Received s n → ⊥
+below-of : {s : Seen} {a : ℕ} {l : List ℕ} → Falls s a l → (n : ℕ) → n + 1 ≡ a → Marked s n → ⊥
 below-of (over f) n e r = f n (omega arith) r
 below-of (run o g m x f) n e r = m n (omega arith) (omega arith) r
 
@@ -150,7 +158,7 @@ newest-of (run {lo = lo} {hi = hi} {l = l} o g m r f) (suc i) h =
     let e : suc i + 1 ≡ suc (i + 1) = omega arith in
     rw (evens lo hi l i, e, odds lo hi l (i + 1)) (newest-of f i (omega arith))
 
-all-of : {s : Seen} {a : ℕ} {l : List ℕ} → Falls s a l → (n : ℕ) → n < a → Received s n
+all-of : {s : Seen} {a : ℕ} {l : List ℕ} → Falls s a l → (n : ℕ) → n < a → Marked s n
     → (i : ℕ) × (i < length l / 2) × (getD l (2 * i) 0 ≤ n) × (n ≤ getD l (2 * i + 1) 0)
 all-of (over f) n h r = absurd (f n h r)
 all-of (run {lo = lo} {hi = hi} {l = l} o g m x f) n h r =
@@ -162,15 +170,28 @@ all-of (run {lo = lo} {hi = hi} {l = l} o g m x f) n h r =
     (suc (t .0), omega (arith, t .1), rw (evens lo hi l (t .0)) (t .2), rw (odds lo hi l (t .0)) (t .3))))
     (λ i. absurd (m n i h r))
 
+-- ---- of what is reported
+
+-- the marks that are reported are those of the numbers from the floor up
+is-received : (s : Seen) (n : ℕ) → Marked (reported s) n → Received s n
+is-received s n (l, h, m) =
+    let a = both (leb (floor s) n) (received s n) (sym (received-reported s n l h) ∙ m) in
+    (leb-true (floor s) n (a .0), h, a .1)
+
+is-marked : (s : Seen) (n : ℕ) → Received s n → Marked (reported s) n
+is-marked s n (l, h, m) =
+    let f : floorOf (s .end) ≤ n = omega (arith, le-max-right (s .confirmed) (floorOf (s .end))) in
+    (f, h, received-reported s n f h ∙ ap (λ (b : Bool). b && received s n) (le-leb (floor s) n l) ∙ m)
+
 pub ranges-are-runs : RangesAreRuns
 ranges-are-runs s e h =
-    let f = whole (begun s e h) in
+    let f = whole (begun-reported s e h) in
     record {
       pairs = pairs-of f;
       holds = λ i j. item f i j .holds;
-      run = λ i j. item f i j .all;
-      above = λ i j. item f i j .above;
-      below = λ i j. item f i j .below;
+      run = λ i j n a b. is-received s n (item f i j .all n a b);
+      above = λ i j r. item f i j .above (is-marked s _ r);
+      below = λ i j n g r. item f i j .below n g (is-marked s n r);
       newest = newest-of f;
-      all = λ n r. all-of f n (omega (arith, r .1)) r;
+      all = λ n r. all-of f n (omega (arith, r .1)) (is-marked s n r);
     }

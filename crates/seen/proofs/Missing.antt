@@ -10,6 +10,10 @@ use Rattle.window.proofs.Laws.{missing-says}
 use Rattle.seen.specs.declared.Seen.{Seen}
 use Rattle.seen.specs.Received.{floor, placeOf, firstMissing}
 
+-- a number that is not above another has no higher place
+not-higher : (a b end : ℕ) → a ≤ b → 0 ≡ placeOf end a - placeOf end b
+not-higher a b end h = omega arith
+
 module _ (s : Seen) (from to : ℕ) where
   -- the places from which and to which is sought
   abbrev lowest : ℕ
@@ -35,7 +39,7 @@ module _ (s : Seen) (from to : ℕ) where
   pub none-sought : min to (s .end) ≤ max from (floor s) → Nothing ≡ firstMissing s from to
   unfolding firstMissing firstClear
   none-sought h =
-      let e : 0 ≡ highest - lowest = omega arith in
+      let e : 0 ≡ highest - lowest = not-higher (min to (s .end)) (max from (floor s)) (s .end) h in
       ap (λ (n : ℕ). firstClear n lowest (valueOf (s .window))) e
 
   pub none-between : to ≤ from → Nothing ≡ firstMissing s from to

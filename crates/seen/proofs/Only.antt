@@ -17,6 +17,8 @@ use Rattle.seen.proofs.Seen.refusal.Reads as refusal
 use Rattle.seen.proofs.Seen.refusal.Kinds as refusal-kinds
 use Rattle.seen.proofs.Seen.with.Reads as marking
 use Rattle.seen.proofs.Seen.with.Kinds as marking-kinds
+use Rattle.seen.proofs.Seen.confirm.Reads as confirming
+use Rattle.seen.proofs.Seen.confirm.Kinds as confirming-kinds
 use Rattle.seen.proofs.Seen.first_missing.Reads as first-missing
 use Rattle.seen.proofs.Seen.first_missing.Kinds as first-missing-kinds
 use Rattle.seen.proofs.Seen.write_ack.Reads as write-ack
@@ -42,6 +44,9 @@ refusal-one κs given x y s t p q = p ∙ sym q
 
 pub marking-one : OneAnswer 0 marking-kinds.ps marking-kinds.r marking.Post
 marking-one κs given x y s t p q = p ∙ sym q
+
+pub confirming-one : OneAnswer 0 confirming-kinds.ps confirming-kinds.r confirming.Post
+confirming-one κs given x y s t p q = p ∙ sym q
 
 pub first-missing-one : OneAnswer 0 first-missing-kinds.ps first-missing-kinds.r first-missing.Post
 first-missing-one κs given x y s t p q = p ∙ sym q

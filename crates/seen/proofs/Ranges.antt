@@ -16,7 +16,7 @@ use Rattle.window.proofs.Runs.{run-on, run-off, run-le}
 use Rattle.window.proofs.Laws.{run-says, none-says}
 use Rattle.frames.specs.Ack.{gapsFrom}
 use Rattle.seen.specs.declared.Seen.{Seen}
-use Rattle.seen.specs.Received.{numbersObey, marksConsistent, seenConsistent}
+use Rattle.seen.specs.Received.{floorFits, numbersObey, marksConsistent, seenConsistent}
 use Rattle.seen.specs.Ack.{numberAt, rangesBelow, ranges, numberOfRanges}
 
 -- ---- a record in which something was received
@@ -38,7 +38,7 @@ begun s e h =
     let n : eqb (s .end) 0 ≡ false = ne-eqb (s .end) 0 (λ z. omega arith) in
     let w : ℕ = valueOf (s .window) in
     let a = both (numbersObey s) (marksConsistent s) e in
-    let b = both (leb (s .end) (limit + 1)) (leb (s .arrived .0) limit) (a .0) in
+    let b = both (leb (s .end) (limit + 1)) (leb (s .arrived .0) limit && floorFits s) (a .0) in
     let d = both (noneBelow (1024 - s .end) w) (eqb (s .end) 0 || isSet w 1023) (a .1) in
     let k : (eqb (s .end) 0 || isSet (valueOf (s .window)) 1023) ≡ true = d .1 in
     record { some = h; small = leb-true (s .end) (limit + 1) (b .0); none = d .0; last = rw n at k }

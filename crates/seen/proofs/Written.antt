@@ -11,9 +11,10 @@ use Rattle.wire.specs.Bytes.{pick, splice}
 use Rattle.wire.specs.Numbers.{limit}
 use Rattle.seen.specs.declared.Micros.{Micros}
 use Rattle.seen.specs.declared.Seen.{Seen}
+use Rattle.seen.specs.declared.Acked.{Acked}
 use Rattle.seen.specs.Numbers.{small}
-use Rattle.seen.specs.Received.{seenConsistent}
-use Rattle.seen.specs.Ack.{numberOfRanges, ackDelay, frame, fits, rangesKept, ackRefusal, ackAnswer, ackBytes}
+use Rattle.seen.specs.Received.{seenConsistent, reported}
+use Rattle.seen.specs.Ack.{numberOfRanges, ackDelay, frame, fits, rangesKept, marksRefusal, marksAnswer, marksBytes, ackRefusal, ackAnswer, ackBytes}
 use Rattle.seen.proofs.Ranges.{Begun, begun}
 use Rattle.seen.proofs.Fitting.{first-rest, first-shortest, kept-says}
 
@@ -39,22 +40,29 @@ module _ (s : Seen) (time : Micros) (room : ℕ) where
       gives-eight e = rw (y, t, eq-eqb (s .end) 0 e)
 
       module _ (n : s .end ≡ 0 → ⊥) where
-        pub gives-nine : fits s (ackDelay s time) room 1 ≡ false → ackRefusal s time room ≡ 9
+        pub gives-nine : fits (reported s) (ackDelay s time) room 1 ≡ false → ackRefusal s time room ≡ 9
         unfolding ackRefusal
         gives-nine e = rw (y, t, ne-eqb (s .end) 0 n) (ap (λ (b : Bool). pick b 0 9) e)
 
-        pub gives-none : fits s (ackDelay s time) room 1 ≡ true → ackRefusal s time room ≡ 0
+        -- then what is reported decides
+        pub gives-rest : ackRefusal s time room ≡ marksRefusal (reported s) time room
         unfolding ackRefusal
-        gives-none e = rw (y, t, ne-eqb (s .end) 0 n) (ap (λ (b : Bool). pick b 0 9) e)
+        gives-rest = rw (y, t, ne-eqb (s .end) 0 n)
 
 module _ (s : Seen) (time : Micros) (xs : List ℕ) where
   pub refused : (n : ℕ) → ackRefusal s time (length xs) ≡ suc n → (record { result = suc n; length = 0 } ≡ ackAnswer s time xs) × (xs ≡ ackBytes s time xs)
   unfolding ackAnswer ackBytes
   refused n e = rw e (refl, refl)
 
-  module _ (y : seenConsistent s ≡ true) (t : small (time .0) ≡ true) (n : s .end ≡ 0 → ⊥) {d : ℕ} (e : d ≡ time .0 - s .arrived .0) where
+  -- no refusal before 9: the answer is that of what is reported
+  pub passed-on : seenConsistent s ≡ true → small (time .0) ≡ true → (s .end ≡ 0 → ⊥)
+      → {a : Acked} {ys : List ℕ} → (a ≡ marksAnswer (reported s) time xs) × (ys ≡ marksBytes (reported s) time xs) → (a ≡ ackAnswer s time xs) × (ys ≡ ackBytes s time xs)
+  unfolding ackAnswer ackBytes marksAnswer marksBytes
+  passed-on y t n (e, f) = rw (gives-rest s time (length xs) y t n) (e, f)
+
+  module _ (y : seenConsistent s ≡ true) (t : small (time .0) ≡ true) (h : 0 < s .end) {d : ℕ} (e : d ≡ time .0 - s .arrived .0) where
     some : Begun s
-    some = begun s y (some-end n)
+    some = begun s y h
 
     same : d / 8 ≡ ackDelay s time
     same = ap (λ (x : ℕ). x / 8) e
@@ -64,11 +72,13 @@ module _ (s : Seen) (time : Micros) (xs : List ℕ) where
 
     module _ {k : ℕ} (f : k ≡ rangesKept s (d / 8) (length xs)) where
       -- not even the first range fits
-      pub wrote-none : k ≡ 0 → (record { result = 9; length = 0 } ≡ ackAnswer s time xs) × (xs ≡ ackBytes s time xs)
+      pub wrote-none : k ≡ 0 → (record { result = 9; length = 0 } ≡ marksAnswer s time xs) × (xs ≡ marksBytes s time xs)
+      unfolding marksAnswer marksBytes
       wrote-none z =
           let c = kept-says s (d / 8) (length xs) in
-          let h : fits s (d / 8) (length xs) 1 ≡ false = c .above 1 (omega arith) (omega (arith, first-rest some)) in
-          refused 8 (gives-nine s time (length xs) y t n (rw same at h))
+          let v : fits s (d / 8) (length xs) 1 ≡ false = c .above 1 (omega arith) (omega (arith, first-rest some)) in
+          let w : fits s (ackDelay s time) (length xs) 1 ≡ false = rw same at v in
+          rw w (refl, refl)
 
       module _ (z : k ≡ 0 → ⊥) where
         pub some-kept : (0 < k) × (k ≤ numberOfRanges s) × (length (frame s (d / 8) k) ≤ length xs)
@@ -78,11 +88,11 @@ module _ (s : Seen) (time : Micros) (xs : List ℕ) where
             (omega arith, omega (arith, c .within), leb-true (length (frame s (d / 8) k)) (length xs) h)
 
         pub wrote-frame : {m : ℕ} {ys : List ℕ} → m ≡ length (frame s (d / 8) k) → ys ≡ splice xs 0 (frame s (d / 8) k)
-            → (record { result = 0; length = m } ≡ ackAnswer s time xs) × (ys ≡ ackBytes s time xs)
-        unfolding ackAnswer ackBytes
+            → (record { result = 0; length = m } ≡ marksAnswer s time xs) × (ys ≡ marksBytes s time xs)
+        unfolding marksAnswer marksBytes
         wrote-frame g h =
             let o = some-kept in
             let i = first-shortest some (d / 8) small-delay k (o .0) (o .1) in
             let v : fits s (d / 8) (length xs) 1 ≡ true = le-leb (length (frame s (d / 8) 1)) (length xs) (omega (arith, o .2)) in
-            let a = gives-none s time (length xs) y t n (rw same at v) in
-            rw (a, g, h, f, same) (refl, refl)
+            let w : fits s (ackDelay s time) (length xs) 1 ≡ true = rw same at v in
+            rw (w, g, h, f, same) (refl, refl)

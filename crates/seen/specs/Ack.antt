@@ -12,7 +12,7 @@ use Rattle.seen.specs.declared.Micros.{Micros}
 use Rattle.seen.specs.declared.Seen.{Seen}
 use Rattle.seen.specs.declared.Acked.{Acked}
 use Rattle.seen.specs.Numbers.{small}
-use Rattle.seen.specs.Received.{seenConsistent}
+use Rattle.seen.specs.Received.{seenConsistent, reported}
 
 -- ---- the "ranges of the window": maximal runs of received numbers, smallest and largest of each, newest first
 
@@ -60,17 +60,6 @@ rangesKept s delay room = largestWhere (fits s delay room) (numberOfRanges s)
 
 -- ---- the frame in a lent buffer xs, whose length is the room
 
--- once what was received is consistent: 5, 8; then 9 where "the smallest permitted output", the frame with the first range only, does not fit
-abbrev pub refusalAfter1 : Seen → Micros → ℕ → ℕ
-refusalAfter1 s time room = pick (small (time .0)) (pick (eqb (s .end) 0) 8 (pick (fits s (ackDelay s time) room 1) 0 9)) 5
-
-unfoldable pub ackRefusal : Seen → Micros → ℕ → ℕ
-ackRefusal s time room = pick (seenConsistent s) (refusalAfter1 s time room) 1
-
--- the frame that is written
-abbrev pub ackFrame : Seen → Micros → ℕ → List ℕ
-ackFrame s time room = frame s (ackDelay s time) (rangesKept s (ackDelay s time) room)
-
 abbrev pub acked : ℕ → List ℕ → Acked
 acked zero bytes = record { result = 0; length = length bytes }
 acked (suc refusal) bytes = record { result = suc refusal; length = 0 }
@@ -79,6 +68,30 @@ acked (suc refusal) bytes = record { result = suc refusal; length = 0 }
 abbrev pub laid : ℕ → List ℕ → List ℕ → List ℕ
 laid zero xs bytes = splice xs 0 bytes
 laid (suc refusal) xs bytes = xs
+
+-- of all marks: 9 where "the smallest permitted output", the frame with the first range only, does not fit
+abbrev pub marksRefusal : Seen → Micros → ℕ → ℕ
+marksRefusal s time room = pick (fits s (ackDelay s time) room 1) 0 9
+
+abbrev pub marksFrame : Seen → Micros → ℕ → List ℕ
+marksFrame s time room = frame s (ackDelay s time) (rangesKept s (ackDelay s time) room)
+
+unfoldable pub marksAnswer : Seen → Micros → List ℕ → Acked
+marksAnswer s time xs = acked (marksRefusal s time (length xs)) (marksFrame s time (length xs))
+
+unfoldable pub marksBytes : Seen → Micros → List ℕ → List ℕ
+marksBytes s time xs = laid (marksRefusal s time (length xs)) xs (marksFrame s time (length xs))
+
+-- once what was received is consistent: 5, 8; then 9, judged by what is reported
+abbrev pub refusalAfter1 : Seen → Micros → ℕ → ℕ
+refusalAfter1 s time room = pick (small (time .0)) (pick (eqb (s .end) 0) 8 (marksRefusal (reported s) time room)) 5
+
+unfoldable pub ackRefusal : Seen → Micros → ℕ → ℕ
+ackRefusal s time room = pick (seenConsistent s) (refusalAfter1 s time room) 1
+
+-- the frame that is written: its ranges are those from the floor up
+abbrev pub ackFrame : Seen → Micros → ℕ → List ℕ
+ackFrame s time room = marksFrame (reported s) time room
 
 -- the answer
 unfoldable pub ackAnswer : Seen → Micros → List ℕ → Acked

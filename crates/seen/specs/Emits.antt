@@ -9,7 +9,7 @@ use Rattle.frames.specs.Ack.{readAck}
 use Rattle.frames.specs.declared.Ack.the-variants.{Frame}
 use Rattle.seen.specs.declared.Micros.{Micros}
 use Rattle.seen.specs.declared.Seen.{Seen}
-use Rattle.seen.specs.Received.{floor, received, seenConsistent}
+use Rattle.seen.specs.Received.{floor, received, seenConsistent, reported}
 use Rattle.seen.specs.Ack.{ranges, numberOfRanges, ackDelay, frame, rangesKept, ackAnswer, ackBytes}
 
 -- ---- the ranges are exactly the maximal runs of received numbers
@@ -20,23 +20,23 @@ Received s n = (floor s ≤ n) × (n < s .end) × (received s n ≡ true)
 
 -- the smallest and the largest number of the range at i, the newest being at 0
 abbrev pub smallest : Seen → ℕ → ℕ
-smallest s i = getD (ranges s) (2 * i) 0
+smallest s i = getD (ranges (reported s)) (2 * i) 0
 
 abbrev pub largest : Seen → ℕ → ℕ
-largest s i = getD (ranges s) (2 * i + 1) 0
+largest s i = getD (ranges (reported s)) (2 * i + 1) 0
 
 pub record MaximalRuns (s : Seen) : Type 0 where
-  pub pairs : 2 * numberOfRanges s ≡ length (ranges s)
+  pub pairs : 2 * numberOfRanges (reported s) ≡ length (ranges (reported s))
   -- a range holds a number, and every number of it was received
-  pub holds : (i : ℕ) → i < numberOfRanges s → smallest s i ≤ largest s i
-  pub run : (i : ℕ) → i < numberOfRanges s → (n : ℕ) → smallest s i ≤ n → n ≤ largest s i → Received s n
+  pub holds : (i : ℕ) → i < numberOfRanges (reported s) → smallest s i ≤ largest s i
+  pub run : (i : ℕ) → i < numberOfRanges (reported s) → (n : ℕ) → smallest s i ≤ n → n ≤ largest s i → Received s n
   -- the numbers next to it were not, or are not in the window
-  pub above : (i : ℕ) → i < numberOfRanges s → Received s (largest s i + 1) → ⊥
-  pub below : (i : ℕ) → i < numberOfRanges s → (n : ℕ) → n + 1 ≡ smallest s i → Received s n → ⊥
+  pub above : (i : ℕ) → i < numberOfRanges (reported s) → Received s (largest s i + 1) → ⊥
+  pub below : (i : ℕ) → i < numberOfRanges (reported s) → (n : ℕ) → n + 1 ≡ smallest s i → Received s n → ⊥
   -- newest first, with a missing number between one and the next
-  pub newest : (i : ℕ) → i + 1 < numberOfRanges s → largest s (i + 1) + 2 ≤ smallest s i
+  pub newest : (i : ℕ) → i + 1 < numberOfRanges (reported s) → largest s (i + 1) + 2 ≤ smallest s i
   -- every received number lies in one
-  pub all : (n : ℕ) → Received s n → (i : ℕ) × (i < numberOfRanges s) × (smallest s i ≤ n) × (n ≤ largest s i)
+  pub all : (n : ℕ) → Received s n → (i : ℕ) × (i < numberOfRanges (reported s)) × (smallest s i ≤ n) × (n ≤ largest s i)
 
 abbrev pub RangesAreRuns : Type 0
 RangesAreRuns = (s : Seen) → seenConsistent s ≡ true → 0 < s .end → MaximalRuns s
@@ -46,15 +46,15 @@ RangesAreRuns = (s : Seen) → seenConsistent s ≡ true → 0 < s .end → Maxi
 -- an accepted write to xs leaves ys, n bytes of it the frame: k is how many ranges it keeps, and zs a lent slice that has room for them
 pub record Emits (s : Seen) (time : Micros) (xs ys : List ℕ) (n k : ℕ) : Type 0 where
   -- "the first range is always there"
-  pub first : (0 < k) × (k ≤ numberOfRanges s)
+  pub first : (0 < k) × (k ≤ numberOfRanges (reported s))
   -- "as many [..] as fit": one range more, if there is one, would not have fitted
-  pub fits : length (frame s (ackDelay s time) k) ≤ length xs
-  pub most : k < numberOfRanges s → length xs < length (frame s (ackDelay s time) (k + 1))
+  pub fits : length (frame (reported s) (ackDelay s time) k) ≤ length xs
+  pub most : k < numberOfRanges (reported s) → length xs < length (frame (reported s) (ackDelay s time) (k + 1))
   -- "an ACK with largest L", the delay and exactly the k newest ranges
   pub back : (zs : List ℕ) → 2 * k ≤ length zs
-      → readAck ys zs ≡ record { answer = Frame (s .end - 1) (ackDelay s time) k n; slice = splice zs 0 (take (2 * k) (ranges s)) }
+      → readAck ys zs ≡ record { answer = Frame (s .end - 1) (ackDelay s time) k n; slice = splice zs 0 (take (2 * k) (ranges (reported s))) }
 
 abbrev pub AckReadBack : Type 0
 AckReadBack =
     (s : Seen) (time : Micros) (xs : List ℕ) → ackAnswer s time xs .result ≡ 0
-    → Emits s time xs (ackBytes s time xs) (ackAnswer s time xs .length) (rangesKept s (ackDelay s time) (length xs))
+    → Emits s time xs (ackBytes s time xs) (ackAnswer s time xs .length) (rangesKept (reported s) (ackDelay s time) (length xs))

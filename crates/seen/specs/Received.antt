@@ -1,10 +1,10 @@
--- What was received: the window and its floor, what consistent means of it, refusals 6 and 7, what an accepted number marks, and the missing numbers.
+-- What was received: the window and its floor, what consistent means of it, refusals 6 and 7, what an accepted number marks, what is reported, and the missing numbers.
 -- What may be absent is kept as an end, one past the number, and 0 for none.
 use Prim.Native.Nat.{ℕ, _+_, _-_, _/_, _^_, min, max}
 use mathlib.Core.Bool.{Bool, true, false, _&&_, _||_}
 use lib.Dec.{leb, ltb, eqb}
 use Rattle.wire.specs.Bytes.{pick}
-use Rattle.window.specs.Window.{places, valueOf, windowOf, isSet, withBit, noneBelow, firstClear}
+use Rattle.window.specs.Window.{places, valueOf, windowOf, isSet, withBit, noneBelow, clearedBelow, firstClear}
 use Rattle.window.specs.declared.Window.{Window}
 use Rattle.window.specs.declared.Missing.{Missing}
 use Rattle.window.specs.declared.Missing.the-variants.{At, Nothing}
@@ -18,8 +18,9 @@ use Rattle.seen.specs.Numbers.{small, smallEnd}
 abbrev pub floorOf : ℕ → ℕ
 floorOf end = end - places
 
+-- "The record gets a floor [..]; the larger of it and the window's own floor is used for ranges, missing numbers and refusal 7" (02, No. 12)
 abbrev pub floor : Seen → ℕ
-floor s = floorOf (s .end)
+floor s = max (s .confirmed) (floorOf (s .end))
 
 -- the place of a number of the window, where L's end is `end`: L's own is the last
 abbrev pub placeOf : ℕ → ℕ → ℕ
@@ -31,9 +32,13 @@ received s n = isSet (valueOf (s .window)) (placeOf (s .end) n)
 
 -- ---- "Consistent means"
 
--- "every number and time obeys 5", of L and of its arrival
+-- "the floor is at most L, and 0 while nothing was received" (02, No. 12)
+abbrev pub floorFits : Seen → Bool
+floorFits s = leb (s .confirmed) (s .end - 1)
+
+-- "every number and time obeys 5", of L and of its arrival; and the floor fits L
 abbrev pub numbersObey : Seen → Bool
-numbersObey s = smallEnd (s .end) && small (s .arrived .0)
+numbersObey s = smallEnd (s .end) && (small (s .arrived .0) && floorFits s)
 
 -- "L's own place is marked and none below number 0"; "if nothing was received, no place is marked"
 abbrev pub marksFit : ℕ → ℕ → Bool
@@ -62,8 +67,18 @@ moveOn w d = windowOf (valueOf w / 2 ^ d)
 unfoldable pub seenAfter : Seen → ℕ → Micros → Seen
 seenAfter s n time =
     pick (ltb n (s .end))
-    (record { window = markAt (s .window) (placeOf (s .end) n); end = s .end; arrived = s .arrived })
-    (record { window = markAt (moveOn (s .window) (n + 1 - s .end)) (places - 1); end = n + 1; arrived = time })
+    (record { window = markAt (s .window) (placeOf (s .end) n); end = s .end; arrived = s .arrived; confirmed = s .confirmed })
+    (record { window = markAt (moveOn (s .window) (n + 1 - s .end)) (places - 1); end = n + 1; arrived = time; confirmed = s .confirmed })
+
+-- ---- "When a packet that carried our ACK with largest k is itself confirmed, [..] stop reporting numbers up to k" (02, No. 12)
+
+-- the floor "rises to k + 1, or to L where k is L"; "The floor never falls"
+unfoldable pub confirmedAfter : Seen → ℕ → Seen
+confirmedAfter s k = record { window = s .window; end = s .end; arrived = s .arrived; confirmed = max (s .confirmed) (min (k + 1) (s .end - 1)) }
+
+-- what is reported: the marks from the floor up
+abbrev pub reported : Seen → Seen
+reported s = record { window = windowOf (clearedBelow (placeOf (s .end) (floor s)) (valueOf (s .window))); end = s .end; arrived = s .arrived; confirmed = s .confirmed }
 
 -- ---- "missing numbers are sought only in the window as it stands after this packet"
 

@@ -6,8 +6,9 @@ ghost use lib.ListN.{length};
 ghost use Rattle.wire.specs.Numbers.{limit};
 ghost use Rattle.wire.specs.Bytes.{splice};
 ghost use Rattle.window.specs.Window.{places, valueOf, lentValue, runBelow};
+ghost use Rattle.seen.specs.Numbers.{small};
 ghost use Rattle.seen.specs.Received.{marksFit, seenConsistent};
-ghost use Rattle.seen.specs.Ack.{numberOfRanges, frame, rangesKept, ackAnswer, ackBytes};
+ghost use Rattle.seen.specs.Ack.{numberOfRanges, frame, rangesKept, marksAnswer, marksBytes, ackAnswer, ackBytes};
 use crate::Acked;
 use crate::Micros;
 use crate::Seen;
@@ -118,6 +119,24 @@ impl Seen {
         at
     }
 
+    // Writes the ACK frame of all its marks, as many newest ranges as fit; 9 where not even the first does.
+    fn write_marks(self, time: Micros, buf: &mut [u8]) -> Acked
+        requires { ⌜ (seenConsistent self ≡ true) × (0 < self .end) × (small (time .0) ≡ true) ⌝ }
+        ensures { λ r. ⌜ (r ≡ marksAnswer self time (now (buf .entry))) × (now (buf .exit) ≡ marksBytes self time (now (buf .entry))) ⌝ }
+    {
+        let delay = numbers::minus_or_zero(time.0, self.arrived.0) / 8;
+        let first = self.first_size();
+        let count = self.ranges_kept(first, delay, buf.len());
+        if count == 0 {
+            return Acked::refused(9);
+        }
+        let length = self.store(first, delay, count, buf);
+        Acked {
+            result: 0,
+            length: length as u64,
+        }
+    }
+
     // Writes an ACK frame at the start of buf. Due or not, it is allowed once something was received.
     pub fn write_ack(self, time: Micros, buf: &mut [u8]) -> Acked
         ensures { λ r. ⌜ (r ≡ ackAnswer self time (now (buf .entry))) × (now (buf .exit) ≡ ackBytes self time (now (buf .entry))) ⌝ }
@@ -131,17 +150,11 @@ impl Seen {
         if self.end == 0 {
             return Acked::refused(8);
         }
-        let delay = numbers::minus_or_zero(time.0, self.arrived.0) / 8;
-        let first = self.first_size();
-        let count = self.ranges_kept(first, delay, buf.len());
-        if count == 0 {
-            return Acked::refused(9);
+        // Where the window's own floor is the larger, every mark is reported, and the window is not copied.
+        if self.confirmed <= numbers::minus_or_zero(self.end, window::PLACES) {
+            return self.write_marks(time, buf);
         }
-        let length = self.store(first, delay, count, buf);
-        Acked {
-            result: 0,
-            length: length as u64,
-        }
+        self.reported().write_marks(time, buf)
     }
 }
 

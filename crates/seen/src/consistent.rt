@@ -11,7 +11,10 @@ impl Seen {
         if !numbers::is_small_end(self.end) {
             return false;
         }
-        numbers::is_small(self.arrived.0)
+        if !numbers::is_small(self.arrived.0) {
+            return false;
+        }
+        self.confirmed <= numbers::minus_or_zero(self.end, 1)
     }
 
     fn marks_consistent(self) -> bool

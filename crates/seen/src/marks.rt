@@ -1,9 +1,9 @@
-// The numbers of the window: which are refused, what an accepted one marks, and the first that is missing.
+// The numbers of the window: which are refused, what an accepted one marks, which are reported no more, and the first that is missing.
 ghost use mathlib.Core.Path.{_≡_};
 ghost use Prim.Native.Nat.{_-_, _≤_};
 ghost use Rattle.wire.specs.Bytes.{pick};
 ghost use Rattle.seen.specs.Numbers.{small};
-ghost use Rattle.seen.specs.Received.{floor, placeOf, numberRefusal, seenAfter, firstMissing};
+ghost use Rattle.seen.specs.Received.{floor, placeOf, numberRefusal, seenAfter, confirmedAfter, reported, firstMissing};
 use crate::Micros;
 use crate::Seen;
 use crate::numbers;
@@ -18,14 +18,15 @@ fn place_of(end: u64, number: u64) -> u64
 }
 
 impl Seen {
-    // The smallest number of the window.
+    // The smallest number that is still looked at: of the window, and from the record's own floor on.
     fn floor(self) -> u64
         ensures { λ r. ⌜ r ≡ floor self ⌝ }
     {
-        numbers::minus_or_zero(self.end, window::PLACES)
+        let lowest = numbers::minus_or_zero(self.end, window::PLACES);
+        numbers::larger_of(self.confirmed, lowest)
     }
 
-    // 7 below the window, 6 in it and received, 0 for a number that can be accepted.
+    // 7 below the floor, 6 from it on and received, 0 for a number that can be accepted.
     pub fn refusal(self, number: u64) -> u64
         ensures { λ r. ⌜ r ≡ numberRefusal self number ⌝ }
     {
@@ -59,6 +60,7 @@ impl Seen {
                 window: next,
                 end,
                 arrived,
+                confirmed: self.confirmed,
             };
         }
         let end_after = number + 1;
@@ -68,6 +70,39 @@ impl Seen {
             window: next,
             end: end_after,
             arrived: time,
+            confirmed: self.confirmed,
+        }
+    }
+
+    // With numbers up to k reported no more: the floor rises to k + 1, or to L where k is L, and never falls.
+    // A k that does not obey 5 changes nothing.
+    pub fn confirm(self, k: u64) -> Seen
+        ensures { λ r. ⌜ r ≡ pick (small k) (confirmedAfter self k) self ⌝ }
+    {
+        if !numbers::is_small(k) {
+            return self;
+        }
+        let largest = numbers::minus_or_zero(self.end, 1);
+        let risen = numbers::smaller_of(k + 1, largest);
+        let mut next = self;
+        next.confirmed = numbers::larger_of(self.confirmed, risen);
+        next
+    }
+
+    // What is reported: the marks from the floor up.
+    pub(crate) fn reported(self) -> Seen
+        requires { ⌜ floor self ≤ self .end ⌝ }
+        ensures { λ r. ⌜ r ≡ reported self ⌝ }
+    {
+        let end = self.end;
+        let window = self.window;
+        let next = window.cleared_below(place_of(end, self.floor()));
+        let arrived = self.arrived;
+        Seen {
+            window: next,
+            end,
+            arrived,
+            confirmed: self.confirmed,
         }
     }
 

@@ -217,3 +217,19 @@ pub fn packet(receiver: Receiver, number: u64, ce: bool) -> Receiver {
     let wrote = next.write(Micros(0), &mut room);
     wrote.next
 }
+
+// A confirmation of an ACK with that largest number, the floor after it, and what a write then leaves in seven bytes.
+pub fn confirm(receiver: Receiver, largest: u64) -> Receiver {
+    show::count(b"confirm ", largest);
+    let answer = receiver.confirm(largest);
+    let next = answer.next;
+    let seen = next.seen;
+    show::count(b": result ", answer.result);
+    show::count(b", floor ", seen.confirmed);
+    let mut room = [0xeeu8; 7];
+    next.write(Micros(0), &mut room);
+    show::text(b"; a write leaves");
+    show::bytes(&room);
+    show::text(b"\n");
+    next
+}

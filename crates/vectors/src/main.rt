@@ -1,4 +1,4 @@
-// The published examples of RFC 9000 and the unmarked ones of document 01, on numbers, frames and thresholds, run and written out line by line.
+// The published examples of RFC 9000 and the unmarked ones of document 01, on numbers, frames, thresholds and confirmations, run and written out line by line.
 // Carries "the rest and RFC 9000's published vectors run in a test program" of document 01, "Settled examples".
 // What it must write stands in the file stdout, which was written from the papers and not from this program.
 mod calls;
@@ -206,6 +206,33 @@ fn congestion() {
     calls::packet(begun, 7, true);
 }
 
+// 02, No. 12: what the sender confirmed is reported no more, and number 2, which is missing, is sought no more.
+fn confirmations() {
+    show::text(
+        b"\nThe floor rises to k + 1, or to L where k is L, and never falls; below it 7 is given; ",
+    );
+    show::text(b"each packet is followed by a write\n");
+    let opened = Receiver::open(1000, 3, Millis(25), Micros(1000));
+    let large = calls::confirm(opened.next, 4611686018427387904);
+    let early = calls::confirm(large, 0);
+    let zero = calls::packet(early, 0, false);
+    let one = calls::packet(zero, 1, false);
+    let three = calls::packet(one, 3, false);
+    let four = calls::packet(three, 4, false);
+    let five = calls::packet(four, 5, false);
+    let above = calls::confirm(five, 6);
+    let first = calls::confirm(above, 1);
+    let below = calls::packet(first, 1, false);
+    let second = calls::confirm(below, 3);
+    let received = calls::packet(second, 3, false);
+    let missing = calls::packet(received, 2, false);
+    let again = calls::packet(missing, 4, false);
+    let smaller = calls::confirm(again, 0);
+    let own = calls::confirm(smaller, 5);
+    let later = calls::packet(own, 7, false);
+    calls::confirm(later, 7);
+}
+
 fn main() {
     head();
     published_read();
@@ -224,4 +251,5 @@ fn main() {
     frames_written();
     thresholds_heard();
     congestion();
+    confirmations();
 }

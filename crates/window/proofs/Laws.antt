@@ -100,6 +100,10 @@ moved-mark w d q = ap (λ (x : ℕ). eqb x 1) (sym (bit-add w d q) ∙ ap (bit w
 pub low-mark : (w k q : ℕ) → q < k → isSet (w % 2 ^ k) q ≡ isSet w q
 low-mark w k q l = ap (λ (x : ℕ). eqb x 1) (bit-low w k q l)
 
+-- of a window made of a number each place has the number's mark
+pub made-mark : (v q : ℕ) → q < 1024 → isSet (valueOf (windowOf v)) q ≡ isSet v q
+made-mark v q l = ap (λ (x : ℕ). isSet x q) (number-of v) ∙ low-mark v 1024 q l
+
 -- no place from k on is marked in a number below 2 ^ k
 pub high-mark : (w k q : ℕ) → w < 2 ^ k → k ≤ q → isSet w q ≡ false
 high-mark w k q h l = ap (λ (x : ℕ). eqb x 1) (bit-above w k q h l)

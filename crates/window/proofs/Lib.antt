@@ -8,3 +8,4 @@ pub mod Shift
 pub mod Runs
 pub mod Low
 pub mod Laws
+pub mod Cleared

@@ -1,7 +1,7 @@
 -- The window's meaning: its sixteen words are one number W below 2 ^ 1024, and a place is marked where W's bit there is 1. Assumes nothing.
 use mathlib.Core.Bool.{Bool, true, false, Bool·beq}
 use mathlib.Core.List.{List}
-use Prim.Native.Nat.{ℕ, zero, suc, _+_, _-_, _*_, _%_, _^_}
+use Prim.Native.Nat.{ℕ, zero, suc, _+_, _-_, _*_, _/_, _%_, _^_}
 use lib.Dec.{eqb}
 use Rattle.window.specs.Words.{numberOf, wordsOf, wordsIn, bit}
 use Rattle.window.specs.declared.Window.{Window}
@@ -45,3 +45,7 @@ runBelow b (suc p) w = elim (Bool·beq (isSet w p) b) [ true ↦ suc (runBelow b
 -- Whether no place below place p is marked.
 abbrev pub noneBelow : ℕ → ℕ → Bool
 noneBelow p w = eqb (w % 2 ^ p) 0
+
+-- The number without the marks below place p.
+abbrev pub clearedBelow : ℕ → ℕ → ℕ
+clearedBelow p w = w / 2 ^ p * 2 ^ p

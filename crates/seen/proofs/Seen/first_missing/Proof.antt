@@ -1,17 +1,17 @@
 -- `seen::Seen::first_missing` meets its contract: the window is searched from the larger of `from` and the floor up to the smaller of `to` and L's end.
 -- Assumes nothing.
-use Prim.Native.Nat.{ℕ, _-_, _≤_, min, max}
+use Prim.Native.Nat.{max}
 use mathlib.Core.Path.{_≡_, ap, _∙_}
 use native.Mathlib.Nat.{min-le-right}
 use native.Mathlib.Omega.{arith}
-use Rattle.seen.specs.Received.{firstMissing}
+use Rattle.seen.specs.Received.{floor, firstMissing}
 use Rattle.seen.proofs.Missing.{none-sought}
 use borrow.Author.Needs.{needs}
 use Rattle.seen.proofs.Seen.first_missing.Statement.{statement}
 use Rattle.seen.proofs.Seen.first_missing.Tie as tie
 
 -- the two bounds
-low : (c : tie.After-smaller-of) → let a = c .before .before .before .args in c .before .larger-of .result ≡ max (a .from) (a .self .end - 1024)
+low : (c : tie.After-smaller-of) → let a = c .before .before .before .args in c .before .larger-of .result ≡ max (a .from) (floor (a .self))
 low c = c .before .larger-of .ensures ∙ ap (max (c .before .before .before .args .from)) (c .before .before .floor .ensures)
 
 floor-requires : tie.Need-floor-requires

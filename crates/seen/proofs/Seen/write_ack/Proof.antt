@@ -1,13 +1,24 @@
--- `seen::Seen::write_ack` meets its contract: the refusals in the definition's order, and then the frame that `ranges_kept` and `store` make.
+-- `seen::Seen::write_ack` meets its contract: the refusals in the definition's order, and then the frame of what is reported.
 -- Assumes nothing.
-use mathlib.Core.Path.{_≡_, _∙_}
+use Prim.Native.Nat.{ℕ}
+use mathlib.Core.Path.{_≡_, sym, _∙_, subst}
 use mathlib.Core.Bool.{true}
+use mathlib.Core.List.{List}
 use native.Mathlib.Omega.{arith}
 use borrow.Author.Needs.{needs}
+use mir.Val.{Fits}
+use mir.Syntax.{w64}
+use lib.ListN.{getD}
+use Rattle.window.proofs.Sixteen.{Sixteen}
+use Rattle.seen.specs.declared.Micros.{Micros}
+use Rattle.seen.specs.declared.Seen.{Seen}
+use Rattle.seen.specs.declared.Acked.{Acked}
+use Rattle.seen.specs.Ack.{marksAnswer, marksBytes}
 use Rattle.seen.specs.Numbers.{small}
 use Rattle.seen.specs.Received.{seenConsistent}
 use Rattle.seen.proofs.Tests.{failed, held}
-use Rattle.seen.proofs.Written.{some-end, gives-one, gives-five, gives-eight, refused, small-delay, wrote-none, some-kept, wrote-frame}
+use Rattle.seen.proofs.Written.{some-end, gives-one, gives-five, gives-eight, refused, passed-on}
+use Rattle.seen.proofs.Reported.{floor-below, consistent-reported, reported-same}
 use Rattle.seen.proofs.Seen.write_ack.Statement.{statement}
 use Rattle.seen.proofs.Seen.write_ack.Tie as tie
 
@@ -20,6 +31,14 @@ whole c = held (c .before .before .before .consistent-by-runs .ensures) (c .befo
 
 timely : (c : tie.Else2) → small (entry c .args .time .0) ≡ true
 timely c = held (c .before .is-small .ensures) (c .if2 .left)
+
+own : (c : tie.Start) → Sixteen (c .args .self .window .words)
+own c = record { long = search needs; words = λ i. let f : Fits w64 (getD (c .args .self .window .words) i 0) = search needs in f .fits }
+
+-- the frame of all marks of what is reported
+as-reported : {s t : Seen} (time : Micros) (xs : List ℕ) {a : Acked} {ys : List ℕ} → t ≡ s → (a ≡ marksAnswer s time xs) × (ys ≡ marksBytes s time xs)
+    → (a ≡ marksAnswer t time xs) × (ys ≡ marksBytes t time xs)
+as-reported time xs {a} {ys} e w = subst (λ (s : Seen). (a ≡ marksAnswer s time xs) × (ys ≡ marksBytes s time xs)) (sym e) w
 
 consistent-by-runs-requires : tie.Need-consistent-by-runs-requires
 consistent-by-runs-requires c κs = search needs
@@ -62,51 +81,46 @@ returns-3 c =
 minus-or-zero-requires : tie.Need-minus-or-zero-requires
 minus-or-zero-requires c κs = search needs
 
-first-size-requires : tie.Need-first-size-requires
-first-size-requires c κs = search needs
-
-ranges-kept-requires : tie.Need-ranges-kept-requires
-ranges-kept-requires c κs =
-    let l = c .before in
-    let k = l .before .before .before in
-    let a = entry k .args in (
-      whole k,
-      some-end (l .before .if3 .left),
-      small-delay (a .self) (a .time) (a .buf .now) (whole k) (timely k) (l .before .if3 .left) (l .minus-or-zero .ensures),
-      omega (arith, entry k .good .1 .1 .0 .1),
-      c .first-size .ensures,
-    )
-
-refused-requires-4 : tie.Need-refused-requires-4
-refused-requires-4 c κs = search needs
-
-returns-4 : tie.Need-returns-4
-returns-4 c =
-    let i = c .before in
-    let l = i .before .before .before in
-    let k = l .before .before .before in
-    let a = entry k .args in
-    let w = wrote-none (a .self) (a .time) (a .buf .now) (whole k) (timely k) (l .before .if3 .left) (l .minus-or-zero .ensures) (i .before .ranges-kept .ensures) (i .if4 .taken) in
-    (c .refused4 .ensures ∙ w .0, w .1)
-
-store-requires : tie.Need-store-requires
-store-requires c κs =
-    let l = c .before .before .before .before in
-    let k = l .before .before .before in
-    let a = entry k .args in
-    let m = some-kept (a .self) (a .time) (a .buf .now) (whole k) (timely k) (l .before .if3 .left) (l .minus-or-zero .ensures) (c .before .before .ranges-kept .ensures) (c .before .if4 .left) in
-    (whole k, some-end (l .before .if3 .left), small-delay (a .self) (a .time) (a .buf .now) (whole k) (timely k) (l .before .if3 .left) (l .minus-or-zero .ensures), m .0, m .1, m .2, c .before .before .before .first-size .ensures)
+write-marks-requires : tie.Need-write-marks-requires
+write-marks-requires c κs =
+    let i = c .before .before .before .before in
+    let k = i .before .before in
+    (whole k, some-end (i .if3 .left), timely k)
 
 same-length : tie.Need-same-length
 same-length c = search needs
 
+returns-4 : tie.Need-returns-4
+returns-4 c =
+    let i = c .before .before .before .before .before .before .before in
+    let k = i .before .before in
+    let a = entry k .args in
+    passed-on (a .self) (a .time) (a .buf .now) (whole k) (timely k) (i .if3 .left)
+    (as-reported (a .time) (a .buf .now) (reported-same (a .self) (whole k) (some-end (i .if3 .left)) (own (entry k)) (omega (arith, c .before .before .before .before .if4 .taken, c .before .before .before .before .before .before .minus-or-zero .ensures))) (c .before .before .write-marks .ensures))
+
+reported-requires : tie.Need-reported-requires
+reported-requires c κs =
+    let i = c .before .before .before in
+    let k = i .before .before in
+    omega (arith, floor-below (entry k .args .self) (whole k) (some-end (i .if3 .left)))
+
+write-marks-requires-2 : tie.Need-write-marks-requires-2
+write-marks-requires-2 c κs =
+    let i = c .before .before .before .before .before in
+    let k = i .before .before in
+    let h = some-end (i .if3 .left) in
+    rw (c .before .reported .ensures) (consistent-reported (entry k .args .self) (whole k) h, h, timely k)
+
+same-length-2 : tie.Need-same-length-2
+same-length-2 c = search needs
+
 returns-5 : tie.Need-returns-5
 returns-5 c =
-    let s = c .before .before in
-    let l = s .before .before .before .before .before in
-    let k = l .before .before .before in
+    let i = c .before .before .before .before .before .before .before .before in
+    let k = i .before .before in
     let a = entry k .args in
-    wrote-frame (a .self) (a .time) (a .buf .now) (whole k) (timely k) (l .before .if3 .left) (l .minus-or-zero .ensures) (s .before .before .before .ranges-kept .ensures) (s .before .before .if4 .left) (s .store .ensures .0) (s .store .ensures .1)
+    passed-on (a .self) (a .time) (a .buf .now) (whole k) (timely k) (i .if3 .left)
+    (as-reported (a .time) (a .buf .now) (sym (c .before .before .before .before .reported .ensures)) (c .before .before .write-marks2 .ensures))
 
 pub write-ack-spec : {M : Type 1} → statement M
 write-ack-spec =
@@ -121,10 +135,10 @@ write-ack-spec =
     refused-requires-3
     returns-3
     minus-or-zero-requires
-    first-size-requires
-    ranges-kept-requires
-    refused-requires-4
-    returns-4
-    store-requires
+    write-marks-requires
     same-length
+    returns-4
+    reported-requires
+    write-marks-requires-2
+    same-length-2
     returns-5)
