@@ -7,7 +7,7 @@ lumbixet_number plain_read_number(const uint8_t *bytes, size_t length, size_t at
     uint64_t value;
     if (!take(&reader, &value))
         return (lumbixet_number){.result = LUMBIXET_ENDS};
-    return (lumbixet_number){LUMBIXET_ACCEPTED, value, reader.at};
+    return (lumbixet_number){LUMBIXET_ACCEPTED, value, reader.at, reader.at - at == width(value)};
 }
 
 lumbixet_put plain_put_number(uint8_t *buffer, size_t length, size_t at, uint64_t value)

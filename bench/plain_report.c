@@ -31,30 +31,40 @@ static bool entries_good(const uint8_t *records, size_t count)
     return true;
 }
 
+/* Reads the next number: 2 where it is cut, 15 where its form is longer than needed. */
+static inline uint64_t take_shortest(struct reader *reader, uint64_t *value)
+{
+    size_t at = reader->at;
+    if (!take(reader, value))
+        return LUMBIXET_ENDS;
+    return reader->at - at == width(*value) ? LUMBIXET_ACCEPTED : LUMBIXET_LONGER_FORM;
+}
+
 /* Reads the numbers of a report, each judged as it comes. */
 static uint64_t take_header(struct reader *reader, lumbixet_header *h)
 {
-    uint64_t average;
-    if (!take(reader, &h->timestamp) || !take(reader, &h->interval) || !take(reader, &h->total) ||
-        !take(reader, &h->received) || !take(reader, &h->late) || !take(reader, &h->lost))
-        return LUMBIXET_ENDS;
+    uint64_t average, fault;
+    if ((fault = take_shortest(reader, &h->timestamp)) || (fault = take_shortest(reader, &h->interval)) ||
+        (fault = take_shortest(reader, &h->total)) || (fault = take_shortest(reader, &h->received)) ||
+        (fault = take_shortest(reader, &h->late)) || (fault = take_shortest(reader, &h->lost)))
+        return fault;
     if (h->total != h->received + h->late + h->lost)
         return LUMBIXET_SUM;
-    if (!take(reader, &average) || !take(reader, &h->metrics))
-        return LUMBIXET_ENDS;
+    if ((fault = take_shortest(reader, &average)) || (fault = take_shortest(reader, &h->metrics)))
+        return fault;
     h->average = average % 2 ? -(int64_t)(average / 2) - 1 : (int64_t)(average / 2);
     if (h->metrics > MOST_METRICS)
         return LUMBIXET_COUNT_OR_TYPE;
     for (uint64_t i = 0; i < h->metrics; i++) {
-        if (!take(reader, &h->kinds[i]))
-            return LUMBIXET_ENDS;
+        if ((fault = take_shortest(reader, &h->kinds[i])))
+            return fault;
         if (!known_type(h->kinds[i]) || (i && h->kinds[i] <= h->kinds[i - 1]))
             return LUMBIXET_COUNT_OR_TYPE;
-        if (!take(reader, &h->values[i]))
-            return LUMBIXET_ENDS;
+        if ((fault = take_shortest(reader, &h->values[i])))
+            return fault;
     }
-    if (!take(reader, &h->entries))
-        return LUMBIXET_ENDS;
+    if ((fault = take_shortest(reader, &h->entries)))
+        return fault;
     return h->entries > MOST_ENTRIES ? LUMBIXET_COUNT_OR_TYPE : LUMBIXET_ACCEPTED;
 }
 

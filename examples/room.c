@@ -3,6 +3,7 @@
 #include <inttypes.h>
 #include <stdio.h>
 #include <stdlib.h>
+#include <string.h>
 
 #include "lumbixet.h"
 
@@ -177,6 +178,12 @@ static void report(void)
     read_report(buffer, written.next);
     printf("The report without its last byte.");
     read_report(buffer, written.next - 1);
+    uint8_t longer[sizeof buffer + 1];
+    memcpy(longer, buffer, 14);
+    longer[14] = 0x40;
+    memcpy(longer + 15, buffer + 14, sizeof buffer - 14);
+    printf("The report with its entry count in two bytes, 40 02.");
+    read_report(longer, written.next + 1);
 }
 
 int main(void)

@@ -65,6 +65,7 @@ enum {
     LUMBIXET_ENTRY = 12,        /* an entry record breaks its rule */
     LUMBIXET_BYTES_BEHIND = 13, /* bytes remain after a report */
     LUMBIXET_BELOW_ZERO = 14,   /* an ACK range goes below number 0 */
+    LUMBIXET_LONGER_FORM = 15,  /* a report's number is not in its shortest form */
     LUMBIXET_NOT_ACKNOWLEDGED = 19, /* the confirmed number is above the largest acknowledged, or none is acknowledged */
     LUMBIXET_STALE = 255        /* of lumbixet_threshold alone: an obsolete frame; nothing changed */
 };
@@ -99,9 +100,10 @@ enum {
 
 /* A number that was read. */
 typedef struct {
-    uint64_t result; /* 0 or 2 */
-    uint64_t value;  /* the number */
-    uint64_t next;   /* the place after it */
+    uint64_t result;   /* 0 or 2 */
+    uint64_t value;    /* the number */
+    uint64_t next;     /* the place after it */
+    uint64_t shortest; /* 1 where its form was the shortest, 0 where it was longer than needed */
 } lumbixet_number;
 
 /* What a writer of numbers and frames answers. */
@@ -110,7 +112,7 @@ typedef struct {
     uint64_t next;   /* the place after what was written; of a frame, its length */
 } lumbixet_put;
 
-/* Reads the number that starts at place `at`; longer forms than needed are accepted. */
+/* Reads the number that starts at place `at`; longer forms than needed are accepted, and told. */
 lumbixet_number lumbixet_read_number(const uint8_t *bytes, size_t length, size_t at);
 
 /* Writes a number at place `at` in its shortest form: 8 bytes always suffice. 5, then 9. */
@@ -249,7 +251,7 @@ typedef struct {
 
 /* What reading a report finds. */
 typedef struct {
-    uint64_t result;        /* 0, 2, 10, 11, 12 or 13 */
+    uint64_t result;        /* 0, 2, 10, 11, 12, 13 or 15 */
     lumbixet_header header; /* all 0 where the report is refused */
 } lumbixet_report;
 
@@ -274,7 +276,7 @@ typedef struct {
     uint64_t kept;   /* how many of the last records were written, at most 50 */
 } lumbixet_written;
 
-/* Reads a whole report: no byte may follow it. */
+/* Reads a whole report: every number in its shortest form (15), and no byte may follow it. Equal reports have equal bytes. */
 lumbixet_report lumbixet_read_report(const uint8_t *bytes, size_t length);
 
 /* Finds the entries of a report; a refused report has none. */

@@ -23,6 +23,7 @@ static inline const char *lumbixet_refusal_text(uint64_t result)
         "an entry breaks its rule",
         "bytes remain after the report",
         "a range goes below number 0",
+        "a number is not in its shortest form",
     };
     if (result == LUMBIXET_NOT_ACKNOWLEDGED)
         return "this number was not acknowledged yet";

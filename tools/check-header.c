@@ -12,7 +12,7 @@
 
 SIZE(bool, 1);
 SIZE(size_t, 8);
-SIZE(lumbixet_number, 24);
+SIZE(lumbixet_number, 32);
 SIZE(lumbixet_put, 16);
 SIZE(lumbixet_frequency, 48);
 SIZE(lumbixet_immediate_frame, 16);
@@ -94,6 +94,8 @@ static void numbers(void)
     SAME(number.result, LUMBIXET_ACCEPTED);
     SAME(number.value, 15293);
     SAME(number.next, 5);
+    SAME(number.shortest, 1);
+    SAME(lumbixet_read_number((const uint8_t *)"\x40\x25", 2, 0).shortest, 0);
     SAME(lumbixet_read_number(buffer, sizeof buffer, 8).result, LUMBIXET_ENDS);
 }
 
@@ -253,6 +255,8 @@ static void reports(void)
 
     SAME(lumbixet_read_report(expected, sizeof expected - 1).result, LUMBIXET_ENDS);
     SAME(lumbixet_find_entries(expected, sizeof expected - 1).start, 82);
+    static const uint8_t long_average[] = {0, 0, 0, 0, 0, 0, 0x40, 0, 0, 0};
+    SAME(lumbixet_read_report(long_average, sizeof long_average).result, LUMBIXET_LONGER_FORM);
     SAME(lumbixet_write_report(buffer, sizeof buffer, header, records, 63).result, LUMBIXET_ENTRY);
     header.metrics = 5;
     SAME(lumbixet_write_report(buffer, sizeof buffer, header, records, 64).result, LUMBIXET_COUNT_OR_TYPE);
@@ -260,6 +264,8 @@ static void reports(void)
     SAME(lumbixet_write_report(buffer, sizeof buffer, header, records, 64).result, LUMBIXET_SUM);
     static const uint8_t behind[] = {0x80, 0x0f, 0x42, 0x40, 0x80, 0x01, 0x86, 0xa0, 3, 1, 1, 1, 3, 0, 0, 0};
     SAME(lumbixet_read_report(behind, sizeof behind).result, LUMBIXET_BYTES_BEHIND);
+    static const uint8_t longer[] = {0, 0, 0, 0, 0, 0, 0, 0, 0x40, 0};
+    SAME(lumbixet_read_report(longer, sizeof longer).result, LUMBIXET_LONGER_FORM);
 }
 
 int main(void)

@@ -4,8 +4,9 @@ use crate::archive::*;
 use crate::frames::{put_frequency, put_immediate, read_ack, read_ack_into, read_frequency, read_immediate};
 use crate::made_up::{argument, up_to};
 use crate::made_up_bytes::{append_in_some_form, damaged};
-use crate::numbers::{put, read, LARGEST};
+use crate::numbers::{put, read, width, LARGEST};
 use crate::random::Random;
+use crate::refusals::ACCEPTED;
 use crate::tally::{Call, Lent, Tally};
 
 pub fn round(random: &mut Random, tally: &mut Tally) -> Result<(), String> {
@@ -66,9 +67,11 @@ fn compare_read_number(random: &mut Random, tally: &mut Tally) -> Result<(), Str
     let length = random.below(12) as usize;
     let bytes = random.bytes(length);
     for at in (0..length + 2).chain([usize::MAX]) {
-        let found = read(&bytes, at);
-        let papers = match found {
-            Ok((value, next)) => Number { result: 0, value, next: next as u64 },
+        let papers = match read(&bytes, at) {
+            Ok(number) => {
+                let shortest = u64::from(number.shortest);
+                Number { result: 0, value: number.value, next: number.next as u64, shortest }
+            }
             Err(result) => Number { result, ..Number::default() },
         };
         let archive = unsafe { lumbixet_read_number(bytes.as_ptr(), length, at) };
@@ -147,6 +150,9 @@ fn compare_read_frequency(tally: &mut Tally, bytes: &[u8]) -> Result<(), String>
         },
         Err(result) => FrequencyFrame { result, ..FrequencyFrame::default() },
     };
+    let shortest = [papers.sequence, papers.threshold, papers.delay, papers.reordering].map(width).iter().sum::<usize>();
+    let longer = papers.result == ACCEPTED && papers.used as usize > 2 + shortest;
+    tally.note("an accepted frame with a longer field", longer);
     let archive = unsafe { lumbixet_read_frequency(bytes.as_ptr(), bytes.len()) };
     tally.compare(Call { name: "read_frequency", result: papers.result, given: &bytes }, papers, archive)
 }

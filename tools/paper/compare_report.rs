@@ -3,8 +3,9 @@
 use crate::archive::*;
 use crate::made_up::{argument, up_to};
 use crate::made_up_bytes::{append_in_some_form, damaged};
-use crate::numbers::LARGEST;
+use crate::numbers::{append, LARGEST};
 use crate::random::Random;
+use crate::refusals::ACCEPTED;
 use crate::report::{find_entries, read_entry, read_report, write_report, Header, LARGEST_AVERAGE, RECORD, SMALLEST_AVERAGE};
 use crate::tally::{Call, Lent, Tally};
 
@@ -17,7 +18,7 @@ pub fn round(random: &mut Random, tally: &mut Tally) -> Result<(), String> {
 }
 
 /// A header that the writer takes.
-fn header(random: &mut Random) -> Header {
+pub fn header(random: &mut Random) -> Header {
     let parts = [(); 3].map(|()| up_to(random, LARGEST / 3));
     let mut header = Header {
         timestamp: up_to(random, LARGEST),
@@ -55,7 +56,7 @@ fn average(random: &mut Random) -> i64 {
 }
 
 /// One thing of the header is another one; or two.
-fn break_header(random: &mut Random, header: &mut Header) {
+pub fn break_header(random: &mut Random, header: &mut Header) {
     let index = random.below(4) as usize;
     match random.below(14) {
         0 => header.timestamp = argument(random),
@@ -81,7 +82,7 @@ fn break_header(random: &mut Random, header: &mut Header) {
 }
 
 /// Records that rise, up to a number of them.
-fn records(random: &mut Random, count: u64) -> Vec<u8> {
+pub fn records(random: &mut Random, count: u64) -> Vec<u8> {
     let mut object = random.below(LARGEST / 2);
     let mut bytes = Vec::new();
     for _ in 0..count {
@@ -135,24 +136,34 @@ fn compare_write_report(random: &mut Random, tally: &mut Tally) -> Result<Vec<u8
     Ok(written)
 }
 
-/// A report as it may stand on the wire: longer forms, counts that are wrong, bytes behind.
+/// The numbers of a report, up to the entry count, as they stand on the wire; what has no form is cut to 62 bits.
+pub fn numbers_of(header: &Header, count: u64) -> Vec<u64> {
+    let stored = if header.average >= 0 { header.average as u64 * 2 } else { !(header.average as u64) * 2 + 1 };
+    let summary = [header.timestamp, header.interval, header.total, header.received, header.late, header.lost, stored];
+    let mut numbers = [&summary[..], &[header.metrics]].concat();
+    for index in 0..header.metrics.min(4) as usize {
+        numbers.extend([header.kinds[index], header.values[index]]);
+    }
+    numbers.push(count);
+    numbers.into_iter().map(|number| number & LARGEST).collect()
+}
+
+/// A report as it may stand on the wire: in half of them longer forms, counts that are wrong, bytes behind.
 fn report(random: &mut Random) -> Vec<u8> {
     let mut header = header(random);
     if random.chance(300) {
         break_header(random, &mut header);
     }
     let count = random.one_of(&[0, 1, 2, 3, 50, 51]);
-    let stored = if header.average >= 0 { header.average as u64 * 2 } else { !(header.average as u64) * 2 + 1 };
-    let summary = [header.timestamp, header.interval, header.total, header.received, header.late, header.lost, stored];
+    let in_some_form = random.chance(500);
     let mut bytes = Vec::new();
-    for value in summary.iter().chain(&[header.metrics]) {
-        append_in_some_form(random, &mut bytes, *value & LARGEST);
+    for value in numbers_of(&header, count) {
+        if in_some_form {
+            append_in_some_form(random, &mut bytes, value);
+        } else {
+            append(&mut bytes, value);
+        }
     }
-    for index in 0..header.metrics.min(4) as usize {
-        append_in_some_form(random, &mut bytes, header.kinds[index] & LARGEST);
-        append_in_some_form(random, &mut bytes, header.values[index] & LARGEST);
-    }
-    append_in_some_form(random, &mut bytes, count);
     let mut records = records(random, count);
     if random.chance(200) {
         break_records(random, &mut records);
@@ -164,13 +175,16 @@ fn report(random: &mut Random) -> Vec<u8> {
     bytes
 }
 
-fn compare_readers(random: &mut Random, tally: &mut Tally, bytes: &[u8]) -> Result<(), String> {
+pub fn compare_readers(random: &mut Random, tally: &mut Tally, bytes: &[u8]) -> Result<(), String> {
     let papers = match read_report(bytes) {
         Ok((header, _)) => Report { result: 0, header: raw_header(&header) },
         Err(result) => Report { result, ..Report::default() },
     };
     let archive = unsafe { lumbixet_read_report(bytes.as_ptr(), bytes.len()) };
     tally.compare(Call { name: "read_report", result: papers.result, given: &bytes }, papers, archive)?;
+    if papers.result == ACCEPTED {
+        compare_written_again(bytes, &papers.header)?;
+    }
     let (start, length) = find_entries(bytes);
     let archive = unsafe { lumbixet_find_entries(bytes.as_ptr(), bytes.len()) };
     let papers = Entries { start: start as u64, length: length as u64 };
@@ -179,6 +193,24 @@ fn compare_readers(random: &mut Random, tally: &mut Tally, bytes: &[u8]) -> Resu
     // also of bytes that no report vouches for
     let anywhere = random.below(bytes.len() as u64 + 1) as usize;
     compare_read_entry(random, tally, &bytes[anywhere..])
+}
+
+/// "From then on equal reports have equal bytes" (document 02, No. 5): an accepted report is what the writer makes of its header
+/// and its entries, in a room that has not a byte more.
+fn compare_written_again(bytes: &[u8], header: &crate::archive::Header) -> Result<(), String> {
+    let (start, length) = find_entries(bytes);
+    let mut again = vec![0; bytes.len()];
+    let entries = &bytes[start..start + length];
+    let written = unsafe { lumbixet_write_report(again.as_mut_ptr(), again.len(), *header, entries.as_ptr(), entries.len()) };
+    let papers = read_report(bytes).and_then(|(header, _)| write_report(&mut vec![0; bytes.len()], &header, entries));
+    let whole = (bytes.len(), length / RECORD);
+    if (written.result, written.next as usize, written.kept as usize) != (ACCEPTED, whole.0, whole.1) || again != bytes {
+        return Err(format!("an accepted report is not written again\n  read    {bytes:?}\n  written {again:?}, {written:?}"));
+    }
+    if papers != Ok(whole) {
+        return Err(format!("by the papers an accepted report is not written again: {papers:?}\n  read {bytes:?}"));
+    }
+    Ok(())
 }
 
 fn compare_read_entry(random: &mut Random, tally: &mut Tally, entries: &[u8]) -> Result<(), String> {

@@ -2,7 +2,7 @@
 
 use crate::example_lines::{hex, Examples};
 use crate::frames::{put_frequency, put_immediate, read_ack, read_ack_into, read_frequency, read_immediate, Frequency};
-use crate::numbers::{append, put, read, width, LARGEST};
+use crate::numbers::{append, put, read, width, Number, LARGEST};
 
 pub fn check(examples: &mut Examples) {
     numbers(examples);
@@ -20,7 +20,9 @@ fn numbers(examples: &mut Examples) {
     ];
     for (bytes, value) in published {
         let bytes = hex(bytes);
-        examples.check(&format!("RFC 9000 A.1: {bytes:02x?} is {value}"), read(&bytes, 0), Ok((value, bytes.len())));
+        // of the five the last alone, 37 in two bytes, is longer than needed
+        let number = Number { value, next: bytes.len(), shortest: bytes != [0x40, 0x25] };
+        examples.check(&format!("RFC 9000 A.1: {bytes:02x?} is {value}"), read(&bytes, 0), Ok(number));
         if bytes.len() == width(value) {
             let mut written = Vec::new();
             append(&mut written, value);
@@ -31,6 +33,20 @@ fn numbers(examples: &mut Examples) {
     examples.check("P3: 64 takes two", width(64), 2);
     let edges = [16_383, 16_384, 1_073_741_823, 1_073_741_824, LARGEST].map(width);
     examples.check("the other edges of the lengths", edges, [2, 4, 4, 8, 8]);
+    for (bytes, shortest) in [("3f", true), ("40 3f", false), ("40 40", true), ("80 00 3f ff", false), ("80 00 40 00", true)] {
+        examples.check(
+            &format!("'{bytes}' is in shortest form: {shortest}"),
+            read(&hex(bytes), 0).map(|n| n.shortest),
+            Ok(shortest),
+        );
+    }
+    for (bytes, shortest) in [("c0 00 00 00 3f ff ff ff", false), ("c0 00 00 00 40 00 00 00", true)] {
+        examples.check(
+            &format!("'{bytes}' is in shortest form: {shortest}"),
+            read(&hex(bytes), 0).map(|n| n.shortest),
+            Ok(shortest),
+        );
+    }
     examples.check("2^62 gives 5, before 9", put(&mut [], 0, LARGEST + 1), Err(5));
     examples.check("64 in one byte gives 9", put(&mut [0], 0, 64), Err(9));
 }
@@ -40,6 +56,8 @@ fn frames(examples: &mut Examples) {
     let frame = Frequency { sequence: 5, threshold: 10, delay: 25_000, reordering: 3, used: 9 };
     examples.check("P1: 40 af 05 0a 80 00 61 a8 03 is sequence 5, T 10, delay 25,000, R 3", read_frequency(&bytes), Ok(frame));
     let mut buffer = [0; 9];
+    let longer = hex("40 af 40 05 80 00 00 0a 80 00 61 a8 c0 00 00 00 00 00 00 03");
+    examples.check("its fields may come in longer forms", read_frequency(&longer), Ok(Frequency { used: 20, ..frame }));
     examples.check("the same frame is written in nine bytes", put_frequency(&mut buffer, [5, 10, 25_000, 3]), Ok(9));
     examples.check("and they are these", buffer.to_vec(), bytes);
     examples.check("it does not fit eight", put_frequency(&mut [0; 8], [5, 10, 25_000, 3]), Err(9));
@@ -54,6 +72,8 @@ fn frames(examples: &mut Examples) {
 fn acks(examples: &mut Examples) {
     let ranges = read_ack(&hex("02 05 00 01 02 00 01")).map(|ack| ack.ranges);
     examples.check("02 05 00 01 02 00 01 is 3 to 5, 0 to 1", ranges, Ok(vec![(3, 5), (0, 1)]));
+    let longer = read_ack(&hex("02 40 05 80 00 00 00 40 01 02 40 00 01")).map(|ack| ack.ranges);
+    examples.check("its fields may come in longer forms", longer, Ok(vec![(3, 5), (0, 1)]));
     for (bytes, result) in [("40 02", 3), ("03", 3), ("02 05 00 01 04 02", 14), ("02 05 00 00 06", 14), ("02 05 00 01 02 00", 2)]
     {
         examples.check(&format!("'{bytes}' as ACK gives {result}"), read_ack(&hex(bytes)), Err(result));

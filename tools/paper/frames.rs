@@ -7,7 +7,7 @@ const ACK: u64 = 0x02;
 const IMMEDIATE_ACK: u64 = 0x1f;
 const ACK_FREQUENCY: u64 = 0xaf;
 
-#[derive(Debug, PartialEq, Eq)]
+#[derive(Clone, Copy, Debug, PartialEq, Eq)]
 pub struct Frequency {
     pub sequence: u64,
     pub threshold: u64,
@@ -30,8 +30,7 @@ pub struct Ack {
 /// "the frame type is another one, or not in shortest form": "a completed wrong type gives 3 before later fields are read".
 fn read_type<'a>(bytes: &'a [u8], wanted: u64) -> Result<Fields<'a>, u64> {
     let mut fields = Fields { bytes, at: 0 };
-    let found = fields.number()?;
-    if found != wanted || fields.at != width(found) {
+    if fields.shortest(OTHER_TYPE)? != wanted {
         return Err(OTHER_TYPE);
     }
     Ok(fields)

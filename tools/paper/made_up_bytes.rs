@@ -1,6 +1,6 @@
 //! Made-up bytes: numbers in longer forms than needed, and whole inputs damaged and cut.
 
-use crate::numbers::append;
+use crate::numbers::{append, width};
 use crate::random::Random;
 
 /// The bytes with each byte changed in turn, and cut at each length. Of long ones only some.
@@ -25,13 +25,23 @@ pub fn damaged(
     Ok(())
 }
 
+/// The lengths of the forms of a number that are longer than needed.
+pub fn longer_forms(value: u64) -> Vec<usize> {
+    [2, 4, 8].into_iter().filter(|length| *length > width(value)).collect()
+}
+
+/// Appends a number in the form of a length that holds it.
+pub fn append_in_form(bytes: &mut Vec<u8>, value: u64, length: usize) {
+    let start = bytes.len();
+    bytes.extend_from_slice(&value.to_be_bytes()[8 - length..]);
+    bytes[start] |= (length.trailing_zeros() as u8) << 6;
+}
+
 /// Appends a number, now and then in a longer form than needed.
 pub fn append_in_some_form(random: &mut Random, bytes: &mut Vec<u8>, value: u64) {
-    if random.chance(900) {
+    let longer = longer_forms(value);
+    if longer.is_empty() || random.chance(900) {
         return append(bytes, value);
     }
-    if value < 1 << 30 && random.chance(500) {
-        return bytes.extend_from_slice(&(2 << 30 | value as u32).to_be_bytes());
-    }
-    bytes.extend_from_slice(&(3 << 62 | value).to_be_bytes());
+    append_in_form(bytes, value, random.one_of(&longer));
 }

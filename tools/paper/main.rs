@@ -13,6 +13,8 @@ mod compare_archive;
 #[cfg(archive)]
 mod compare_codec;
 #[cfg(archive)]
+mod compare_forms;
+#[cfg(archive)]
 mod compare_receiver;
 mod compare_replay;
 #[cfg(archive)]

@@ -1,6 +1,6 @@
 //! Numbers on the wire: document 01, "Numbers on the wire"; RFC 9000 section 16.
 
-use crate::refusals::{ENDS, NO_ROOM, TOO_LARGE};
+use crate::refusals::{ENDS, LONGER_FORM, NO_ROOM, TOO_LARGE};
 
 /// "a number, threshold or time is above 2^62 - 1": the largest that is not.
 pub const LARGEST: u64 = (1 << 62) - 1;
@@ -28,15 +28,26 @@ pub fn high_first(bytes: &[u8]) -> u64 {
     bytes.iter().fold(0, |high, byte| high << 8 | u64::from(*byte))
 }
 
-/// Reads the number at a place: its value, and the place after it.
-pub fn read(bytes: &[u8], at: usize) -> Result<(u64, usize), u64> {
+/// A number that was read.
+#[derive(Clone, Copy, Debug, PartialEq, Eq)]
+pub struct Number {
+    pub value: u64,
+    /// The place after it.
+    pub next: usize,
+    /// "The number reader is to say also whether the form was the shortest" (document 02, No. 5).
+    pub shortest: bool,
+}
+
+/// Reads the number at a place.
+pub fn read(bytes: &[u8], at: usize) -> Result<Number, u64> {
     let first = *bytes.get(at).ok_or(ENDS)?;
     // "the top two bits of the first byte give a length of 1, 2, 4 or 8 bytes"
     let length = 1 << (first >> 6);
     let field = bytes.get(at..at + length).ok_or(ENDS)?;
     // "the other bits are the value, high byte first"
     let top_two = u64::from(first & 0xc0) << (8 * (length - 1));
-    Ok((high_first(field) - top_two, at + length))
+    let value = high_first(field) - top_two;
+    Ok(Number { value, next: at + length, shortest: length == width(value) })
 }
 
 /// Appends a number, at most 2^62 - 1, in its shortest form.
@@ -70,9 +81,29 @@ pub struct Fields<'a> {
 }
 
 impl Fields<'_> {
+    /// The next number in any form; whether it was the shortest goes with it.
+    fn in_any_form(&mut self) -> Result<Number, u64> {
+        let number = read(self.bytes, self.at)?;
+        self.at = number.next;
+        Ok(number)
+    }
+
+    /// "frame fields accept it"
     pub fn number(&mut self) -> Result<u64, u64> {
-        let (value, next) = read(self.bytes, self.at)?;
-        self.at = next;
-        Ok(value)
+        Ok(self.in_any_form()?.value)
+    }
+
+    /// "Report readers refuse a longer form"; a frame type "not in shortest form" is refused too, with a number of its own.
+    pub fn shortest(&mut self, refusal: u64) -> Result<u64, u64> {
+        let number = self.in_any_form()?;
+        if !number.shortest {
+            return Err(refusal);
+        }
+        Ok(number.value)
+    }
+
+    /// A number of a report.
+    pub fn report_number(&mut self) -> Result<u64, u64> {
+        self.shortest(LONGER_FORM)
     }
 }

@@ -30,6 +30,8 @@ pub const ENTRY: u64 = 12;
 pub const BYTES_BEHIND: u64 = 13;
 /// "an ACK range goes below number 0"
 pub const BELOW_ZERO: u64 = 14;
+/// "Report readers refuse a longer form": "given at the field, before 10 and 11" (document 02, No. 5)
+pub const LONGER_FORM: u64 = 15;
 /// "k is above A or A is absent" (document 02, No. 12)
 pub const NOT_ACKNOWLEDGED: u64 = 19;
 /// "it answers 'stale', and nothing changes": no refusal; a number that no refusal has.

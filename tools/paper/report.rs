@@ -1,4 +1,5 @@
-//! Document 01, "The feedback report": a header of wire numbers, then entries, records of 16 bytes.
+//! Document 01, "The feedback report", with document 02, No. 5: a header of wire numbers in shortest form, then entries,
+//! records of 16 bytes.
 
 use crate::numbers::{append, high_first, judge_numbers, put_bytes, Fields, LARGEST};
 use crate::refusals::{BYTES_BEHIND, COUNT_OR_TYPE, ENDS, ENTRY, NO_ROOM, SUM, TOO_LARGE};
@@ -66,7 +67,7 @@ pub fn read_report(bytes: &[u8]) -> Result<(Header, usize), u64> {
     let mut fields = Fields { bytes, at: 0 };
     let mut header = read_summary(&mut fields)?;
     read_metrics(&mut fields, &mut header)?;
-    header.entries = fields.number()?;
+    header.entries = fields.report_number()?;
     if header.entries > MOST_ENTRIES as u64 {
         return Err(COUNT_OR_TYPE);
     }
@@ -81,28 +82,28 @@ pub fn read_report(bytes: &[u8]) -> Result<(Header, usize), u64> {
 
 fn read_summary(fields: &mut Fields) -> Result<Header, u64> {
     let mut header = Header {
-        timestamp: fields.number()?,
-        interval: fields.number()?,
-        total: fields.number()?,
-        received: fields.number()?,
-        late: fields.number()?,
-        lost: fields.number()?,
+        timestamp: fields.report_number()?,
+        interval: fields.report_number()?,
+        total: fields.report_number()?,
+        received: fields.report_number()?,
+        late: fields.report_number()?,
+        lost: fields.report_number()?,
         ..Header::default()
     };
     // "The sum (11) is checked after lost"
     judge_sum(&header)?;
-    header.average = restored(fields.number()?);
+    header.average = restored(fields.report_number()?);
     Ok(header)
 }
 
 /// "10 after each count or type"
 fn read_metrics(fields: &mut Fields, header: &mut Header) -> Result<(), u64> {
-    header.metrics = fields.number()?;
+    header.metrics = fields.report_number()?;
     judge_metric_count(header.metrics)?;
     for index in 0..header.metrics as usize {
-        header.kinds[index] = fields.number()?;
+        header.kinds[index] = fields.report_number()?;
         judge_type(&header.kinds, index)?;
-        header.values[index] = fields.number()?;
+        header.values[index] = fields.report_number()?;
     }
     Ok(())
 }

@@ -22,14 +22,14 @@ const CAN_GIVE: [(&str, &[u64]); 18] = [
     ("read_ack", &[0, 2, 3, 14, 9]),
     ("put_frequency", &[0, 5, 9]),
     ("put_immediate", &[0, 9]),
-    ("read_report", &[0, 2, 10, 11, 12, 13]),
+    ("read_report", &[0, 2, 10, 11, 12, 13, 15]),
     ("find_entries", &[0]),
     ("read_entry", &[0, 2, 12]),
     ("write_report", &[0, 5, 11, 10, 12, 9]),
 ];
 
 /// What must have happened in accepted and refused calls beyond their results.
-const MOMENTS: [&str; 10] = [
+const MOMENTS: [&str; 19] = [
     "1 for nothing but a floor above L",
     "1 for nothing but a floor while nothing was received",
     "7 though it was received and lies within 1,024 of L",
@@ -40,6 +40,15 @@ const MOMENTS: [&str; 10] = [
     "an ACK without numbers that the record's floor leaves out",
     "an ACK at every room after a confirmation",
     "nothing due, where a gap below the record's floor would be",
+    "15 for one longer form alone",
+    "15 for the first of two longer forms",
+    "15 at lost, before 11",
+    "11 after lost, before a 15 in the average",
+    "15 at the metric count, before 10",
+    "15 at a metric type, before 10",
+    "15 at the entry count, before 10",
+    "2 where a longer form is cut",
+    "an accepted frame with a longer field",
 ];
 
 /// How often each call gave each result, each receiver call left each cause, and each moment came.

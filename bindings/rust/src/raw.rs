@@ -60,7 +60,7 @@ pub struct Wrote {
     pub next: Receiver,
 }
 
-/// `lumbixet_number`: a number that was read, and the place after it.
+/// `lumbixet_number`: a number that was read, the place after it, and 1 where its form was the shortest.
 #[repr(C)]
 #[derive(Clone, Copy, Debug, Default, PartialEq, Eq)]
 #[allow(missing_docs)]
@@ -68,6 +68,7 @@ pub struct Number {
     pub result: u64,
     pub value: u64,
     pub next: u64,
+    pub shortest: u64,
 }
 
 /// `lumbixet_put`: the place after what was written.

@@ -34,6 +34,8 @@ pub enum Refusal {
     BytesBehind,
     /// 14: an ACK range goes below number 0.
     BelowZero,
+    /// 15: a report's number is not in its shortest form.
+    LongerForm,
     /// 19: the confirmed number is above the largest acknowledged, or none is acknowledged.
     NotAcknowledged,
     /// A number that this version does not name; the archive that goes with it gives none.
@@ -43,7 +45,7 @@ pub enum Refusal {
 use Refusal::*;
 
 /// Each with its number and its words.
-const REFUSALS: [(u64, Refusal, &str); 15] = [
+const REFUSALS: [(u64, Refusal, &str); 16] = [
     (1, Inconsistent, "the record is not consistent"),
     (2, Ends, "the bytes end inside a field"),
     (3, OtherType, "the frame type is another one"),
@@ -58,6 +60,7 @@ const REFUSALS: [(u64, Refusal, &str); 15] = [
     (12, Entry, "an entry breaks its rule"),
     (13, BytesBehind, "bytes remain after the report"),
     (14, BelowZero, "a range goes below number 0"),
+    (15, LongerForm, "a number is not in its shortest form"),
     (19, NotAcknowledged, "this number was not acknowledged yet"),
 ];
 

@@ -117,7 +117,8 @@ impl<'a> Report<'a> {
     /// Reads a whole report.
     ///
     /// # Errors
-    /// [`Refusal::Ends`], [`Refusal::CountOrType`], [`Refusal::Sum`], [`Refusal::Entry`], [`Refusal::BytesBehind`].
+    /// [`Refusal::Ends`], [`Refusal::LongerForm`], [`Refusal::CountOrType`], [`Refusal::Sum`], [`Refusal::Entry`],
+    /// [`Refusal::BytesBehind`].
     pub fn read(bytes: &'a [u8]) -> Result<Report<'a>, Refusal> {
         let report = unsafe { raw::lumbixet_read_report(bytes.as_ptr(), bytes.len()) };
         accepted(report.result)?;

@@ -21,6 +21,7 @@ fn empty_slices() {
     assert_eq!(Ack::read(&[], &mut []), Err(Refusal::Ends));
     assert_eq!(Ack::read(&[0x02, 0, 0, 0, 0], &mut []), Err(Refusal::NoRoom));
     assert_eq!(Report::read(&[]), Err(Refusal::Ends));
+    assert_eq!(Report::read(&[0, 0, 0, 0, 0, 0, 0, 0, 0x40, 0]), Err(Refusal::LongerForm));
     assert_eq!(Entry::read(&[], 0), Err(Refusal::Ends));
     assert_eq!(Header::default().write(&mut [], &[]), Err(Refusal::NoRoom));
     let mut buffer = [0; REPORT_ROOM];
@@ -41,13 +42,13 @@ fn numbers_and_rest() {
 /// Each number has a name, and the name its number; words and numbers are those of the C header.
 #[test]
 fn names_are_the_headers() {
-    for number in (1..15).chain([19]) {
+    for number in (1..16).chain([19]) {
         let refusal = Refusal::from_number(number);
         assert_eq!(refusal.number(), number);
         assert!(HEADERS.contains(&format!("\"{refusal}\"")), "the header has other words than: {refusal}");
     }
-    assert_eq!(Refusal::from_number(15), Refusal::Unknown(15));
-    assert_eq!(Refusal::Unknown(15).to_string(), "unknown");
+    assert_eq!(Refusal::from_number(99), Refusal::Unknown(99));
+    assert_eq!(Refusal::Unknown(99).to_string(), "unknown");
     for number in 1..6 {
         let cause = Cause::from_number(number).unwrap();
         assert_eq!(cause.number(), number);
@@ -120,6 +121,9 @@ fn a_whole_report() {
     assert_eq!(report.header, header);
     assert!(report.entries.iter().eq(entries));
     assert_eq!((report.entries.len(), report.entries.get(1), report.entries.get(4)), (4, Some(entries[1]), None));
+    // the timestamp, 1001 in two bytes, stands in four: an equal report in other bytes
+    let longer = [&[0x80, 0, 0x03, 0xe9][..], &written.bytes[2..]].concat();
+    assert_eq!(Report::read(&longer), Err(Refusal::LongerForm));
     let sum = Header { lost: 31, ..header };
     assert_eq!(sum.write(&mut buffer, &[]), Err(Refusal::Sum));
 }

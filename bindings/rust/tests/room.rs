@@ -148,6 +148,10 @@ impl Room {
         self.read_report(bytes);
         self.say("The report without its last byte.");
         self.read_report(&bytes[..bytes.len() - 1]);
+        let mut longer = bytes.to_vec();
+        longer.insert(14, 0x40);
+        self.say("The report with its entry count in two bytes, 40 02.");
+        self.read_report(&longer);
     }
 }
 

@@ -10,8 +10,8 @@ use lib.ListN.{length, take, drop, length-take, length-drop}
 use lib.Seq.{drop-cons, length-take-le}
 use Rattle.wire.specs.Bytes.{be, Octets}
 use Rattle.wire.specs.Fields.{readFixed}
-use Rattle.wire.specs.declared.Number.{Number}
-use Rattle.wire.specs.declared.Number.the-variants.{Value, Ends as NumberEnds}
+use Rattle.wire.specs.declared.Fixed.{Fixed}
+use Rattle.wire.specs.declared.Fixed.the-variants.{Value, Ends as FixedEnds}
 use Rattle.wire.proofs.Bytes.{bound, octets-part}
 use Rattle.entries.specs.Limits.{recordSize}
 use Rattle.entries.specs.Entries.{objectOf, statusOf, zerosOf, ageOf, entryFrom, entryOf, recordAt, entryAt}
@@ -35,13 +35,13 @@ unfolding readFixed
 fixed-there len s at h = rw (le-leb (at + len) (length s) h)
 
 -- a field within the bytes is there
-pub never-ends : {A : Type 0} (len : ℕ) (s : List ℕ) (at : ℕ) (n : Number) → at + len ≤ length s → n ≡ NumberEnds → n ≡ readFixed len s at → A
+pub never-ends : {A : Type 0} (len : ℕ) (s : List ℕ) (at : ℕ) (n : Fixed) → at + len ≤ length s → n ≡ FixedEnds → n ≡ readFixed len s at → A
 never-ends len s at n h t e =
-    let f : Value (be 0 (take len (drop at s))) (at + len) ≡ NumberEnds = sym (fixed-there len s at h) ∙ sym e ∙ t in
+    let f : Value (be 0 (take len (drop at s))) (at + len) ≡ FixedEnds = sym (fixed-there len s at h) ∙ sym e ∙ t in
     let z : _≡_ {A = ℕ} 0 1 = cc in
     absurd (omega arith)
 
-pub field-is : (len : ℕ) (s : List ℕ) (at : ℕ) (n : Number) (v next : ℕ) → at + len ≤ length s → n ≡ Value v next → n ≡ readFixed len s at → v ≡ be 0 (take len (drop at s))
+pub field-is : (len : ℕ) (s : List ℕ) (at : ℕ) (n : Fixed) (v next : ℕ) → at + len ≤ length s → n ≡ Value v next → n ≡ readFixed len s at → v ≡ be 0 (take len (drop at s))
 field-is len s at n v next h t e =
     let f : Value v next ≡ Value (be 0 (take len (drop at s))) (at + len) = sym t ∙ e ∙ fixed-there len s at h in
     cc

@@ -4,8 +4,8 @@ ghost use Rattle.entries.specs.Entries.{entryFrom, entryOf, entryAt};
 use crate::Entry;
 use crate::RECORD;
 use crate::Status;
+use wire::Fixed;
 use wire::LARGEST;
-use wire::Number;
 
 // The entry in a record's bytes. Its status and the three zero bytes are looked at as one field of four bytes.
 pub(crate) fn entry_of(bytes: &[u8]) -> Entry
@@ -14,21 +14,21 @@ pub(crate) fn entry_of(bytes: &[u8]) -> Entry
     if bytes.len() < RECORD {
         return Entry::Ends;
     }
-    let Number::Value {
+    let Fixed::Value {
         value: object,
         next: _,
     } = wire::read_fixed8(bytes, 0)
     else {
         return Entry::Ends;
     };
-    let Number::Value {
+    let Fixed::Value {
         value: mark,
         next: _,
     } = wire::read_fixed4(bytes, 8)
     else {
         return Entry::Ends;
     };
-    let Number::Value {
+    let Fixed::Value {
         value: age,
         next: _,
     } = wire::read_fixed4(bytes, 12)

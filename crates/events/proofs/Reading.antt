@@ -10,13 +10,13 @@ use lib.Dec.{leb}
 use lib.ListN.{length, getD, take, drop}
 use Rattle.wire.specs.Bytes.{pick, be}
 use Rattle.wire.specs.Fields.{readFixed}
-use Rattle.wire.specs.declared.Number.{Number}
-use Rattle.wire.specs.declared.Number.the-variants.{Value, Ends}
+use Rattle.wire.specs.declared.Fixed.{Fixed}
+use Rattle.wire.specs.declared.Fixed.the-variants.{Value, Ends}
 use Rattle.events.specs.declared.EventRead.the-variants.{Whole, Short}
 use Rattle.events.specs.Events.{readEvent}
 
 -- n is what a field's reader answered
-module _ (len : ℕ) (s : List ℕ) (at : ℕ) {n : Number} (e : n ≡ readFixed len s at) where
+module _ (len : ℕ) (s : List ℕ) (at : ℕ) {n : Fixed} (e : n ≡ readFixed len s at) where
   pub field-ends : n ≡ Ends → length s < at + len
   unfolding readFixed
   field-ends t = go (leb (at + len) (length s)) refl (sym e ∙ t)

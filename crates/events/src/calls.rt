@@ -6,20 +6,20 @@ use crate::EventRead;
 use receiver::Answer;
 use receiver::Receiver;
 use seen::Micros;
-use wire::Number;
+use wire::Fixed;
 
 // Reads the event at the start of s.
 pub fn read_event(s: &[u8]) -> EventRead
     ensures { λ r. ⌜ r ≡ readEvent (now (s .entry)) ⌝ }
 {
-    let Number::Value {
+    let Fixed::Value {
         value: number,
         next: _,
     } = wire::read_fixed8(s, 8)
     else {
         return EventRead::Short;
     };
-    let Number::Value {
+    let Fixed::Value {
         value: time,
         next: _,
     } = wire::read_fixed8(s, 16)

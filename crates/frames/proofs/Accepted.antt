@@ -10,7 +10,7 @@ use lib.Dec.{leb}
 use lib.ListN.{length, getD, take, drop}
 use lib.Seq.{take-at}
 use Rattle.wire.specs.Bytes.{splice, Octets}
-use Rattle.wire.specs.Numbers.{limit, widthOf, readNumber}
+use Rattle.wire.specs.Numbers.{limit, readNumber}
 use Rattle.wire.specs.Standing.{Stand, none, one}
 use Rattle.wire.specs.declared.Number.the-variants.{Value}
 use Rattle.wire.proofs.Accepted.{accepted-small}
@@ -46,27 +46,27 @@ walk-of : {x y : Ranges} → x ≡ y → x .walk ≡ y .walk
 walk-of e = ap (λ (r : Ranges). r .walk) e
 
 -- a number stands, given what it was read as
-stands : (s : List ℕ) {at mid next v w : ℕ} {vs : List ℕ} → v ≡ w → readNumber s at ≡ Value v mid → Stand s mid vs next → Stand s at (w ∷ vs) next
-stands s {mid = mid} e r t = one (r ∙ ap (λ (x : ℕ). Value x mid) e) t
+stands : (s : List ℕ) {at mid next v w : ℕ} {b : Bool} {vs : List ℕ} → v ≡ w → readNumber s at ≡ Value v mid b → Stand s mid vs next → Stand s at (w ∷ vs) next
+stands s {mid = mid} {b = b} e r t = one (r ∙ ap (λ (x : ℕ). Value x mid b) e) t
 
 -- a range of a whole walk: its length was read, and the walk went on from its smallest
 range-read : (s : List ℕ) (at hi used : ℕ) (f : ℕ → ℕ → Ranges) → range s at hi f .walk ≡ Whole used
-    → (len : ℕ) × (mid : ℕ) × (readNumber s at ≡ Value len mid) × (len ≤ hi) × (before (hi - len) hi (f (hi - len) mid) ≡ range s at hi f)
+    → (len : ℕ) × (mid : ℕ) × (b : Bool) × (readNumber s at ≡ Value len mid b) × (len ≤ hi) × (before (hi - len) hi (f (hi - len) mid) ≡ range s at hi f)
 range-read s at hi used f e =
     let r = field-read (readNumber s at) {y = range s at hi f} refl (λ h. no-end e (walk-of h)) in
-    let t = test-held (leb (r .0) hi) (r .3) (λ h. no-low e (walk-of h)) in
-    (r .0, r .1, r .2, leb-true (r .0) hi (t .0), t .1)
+    let t = test-held (leb (r .0) hi) (r .4) (λ h. no-low e (walk-of h)) in
+    (r .0, r .1, r .2, r .3, leb-true (r .0) hi (t .0), t .1)
 
 -- a gap of a whole walk likewise
 below-read : (s : List ℕ) (at lo used : ℕ) (f : ℕ → ℕ → Ranges) → below s at lo f .walk ≡ Whole used
-    → (gap : ℕ) × (next : ℕ) × (readNumber s at ≡ Value gap next) × (gap + 2 ≤ lo) × (f (lo - gap - 2) next ≡ below s at lo f)
+    → (gap : ℕ) × (next : ℕ) × (b : Bool) × (readNumber s at ≡ Value gap next b) × (gap + 2 ≤ lo) × (f (lo - gap - 2) next ≡ below s at lo f)
 below-read s at lo used f e =
     let r = field-read (readNumber s at) {y = below s at lo f} refl (λ h. no-end e (walk-of h)) in
-    let t = test-held (leb (r .0 + 2) lo) (r .3) (λ h. no-low e (walk-of h)) in
-    (r .0, r .1, r .2, leb-true (r .0 + 2) lo (t .0), t .1)
+    let t = test-held (leb (r .0 + 2) lo) (r .4) (λ h. no-low e (walk-of h)) in
+    (r .0, r .1, r .2, r .3, leb-true (r .0 + 2) lo (t .0), t .1)
 
 -- the last range
-last-walked : (s : List ℕ) (at hi used len mid : ℕ) (y : Ranges) → readNumber s at ≡ Value len mid → len ≤ hi → before (hi - len) hi (ended (Whole mid)) ≡ y
+last-walked : (s : List ℕ) (at hi used len mid : ℕ) {b : Bool} (y : Ranges) → readNumber s at ≡ Value len mid b → len ≤ hi → before (hi - len) hi (ended (Whole mid)) ≡ y
     → y .walk ≡ Whole used → Walked s 0 at hi used (y .pairs)
 unfolding RangesBelow gapsFrom
 last-walked s at hi used len mid y r l t e =
@@ -83,8 +83,8 @@ last-walked s at hi used len mid y r l t e =
     }
 
 -- a range before those of which it is known
-more-walked : (s : List ℕ) (count at hi used len mid gap next : ℕ) (pairs later : List ℕ) → readNumber s at ≡ Value len mid → len ≤ hi
-    → readNumber s mid ≡ Value gap next → gap + 2 ≤ hi - len → (hi - len) ∷ hi ∷ later ≡ pairs
+more-walked : (s : List ℕ) (count at hi used len mid gap next : ℕ) {b c : Bool} (pairs later : List ℕ) → readNumber s at ≡ Value len mid b → len ≤ hi
+    → readNumber s mid ≡ Value gap next c → gap + 2 ≤ hi - len → (hi - len) ∷ hi ∷ later ≡ pairs
     → Walked s count next (hi - len - gap - 2) used later → Walked s (suc count) at hi used pairs
 unfolding RangesBelow gapsFrom
 more-walked s count at hi used len mid gap next pairs later r l g m p i = record {
@@ -101,23 +101,23 @@ walked : (count : ℕ) (s : List ℕ) (at hi used : ℕ) → rangesFrom count s 
 unfolding rangesFrom
 walked zero s at hi used e =
     let r = range-read s at hi used (λ smallest next. ended (Whole next)) e in
-    last-walked s at hi used (r .0) (r .1) (rangesFrom zero s at hi) (r .2) (r .3) (r .4) e
+    last-walked s at hi used (r .0) (r .1) (rangesFrom zero s at hi) (r .3) (r .4) (r .5) e
 walked (suc count) s at hi used e =
     let r = range-read s at hi used (λ smallest mid. below s mid smallest (λ lower next. rangesFrom count s next lower)) e in
-    let g = below-read s (r .1) (hi - r .0) used (λ lower next. rangesFrom count s next lower) (walk-of (r .4) ∙ e) in
+    let g = below-read s (r .1) (hi - r .0) used (λ lower next. rangesFrom count s next lower) (walk-of (r .5) ∙ e) in
     more-walked s count at hi used (r .0) (r .1) (g .0) (g .1) (rangesFrom (suc count) s at hi .pairs) (rangesFrom count s (g .1) (hi - r .0 - g .0 - 2) .pairs)
-    (r .2) (r .3) (g .2) (g .3)
-    (ap (λ (x : Ranges). (hi - r .0) ∷ hi ∷ x .pairs) (g .4) ∙ ap (λ (x : Ranges). x .pairs) (r .4))
-    (walked count s (g .1) (hi - r .0 - g .0 - 2) used (walk-of (g .4) ∙ (walk-of (r .4) ∙ e)))
+    (r .3) (r .4) (g .3) (g .4)
+    (ap (λ (x : Ranges). (hi - r .0) ∷ hi ∷ x .pairs) (g .5) ∙ ap (λ (x : Ranges). x .pairs) (r .5))
+    (walked count s (g .1) (hi - r .0 - g .0 - 2) used (walk-of (g .5) ∙ (walk-of (r .5) ∙ e)))
 
 -- ---- the frame
 
 -- the numbers before the ranges, and the walk over these, say what the answer tells
-tells : (s xs pairs : List ℕ) (hi delay count end at1 at2 at3 : ℕ) → Octets s → readNumber s 0 ≡ Value ackType (widthOf ackType)
-    → readNumber s (widthOf ackType) ≡ Value hi at1 → readNumber s at1 ≡ Value delay at2 → readNumber s at2 ≡ Value count at3
+tells : (s xs pairs : List ℕ) (hi delay count end at at1 at2 at3 : ℕ) {b0 b1 b2 b3 : Bool} → Octets s → readNumber s 0 ≡ Value ackType at b0
+    → readNumber s at ≡ Value hi at1 b1 → readNumber s at1 ≡ Value delay at2 b2 → readNumber s at2 ≡ Value count at3 b3
     → Walked s count at3 hi end pairs → AckTells s (take (2 * (count + 1)) (splice xs 0 pairs)) hi delay (count + 1) end
 unfolding AckRanges ackNumbers
-tells s xs pairs hi delay count end at1 at2 at3 o k a b c r =
+tells s xs pairs hi delay count end at at1 at2 at3 o k a b c r =
     let n : length pairs ≡ 2 * (count + 1) = omega (arith, ap length (r .made), r .many) in
     let p : take (2 * (count + 1)) (splice xs 0 pairs) ≡ r .lo ∷ hi ∷ r .rest = take-at pairs (drop (0 + length pairs) xs) (2 * (count + 1)) n ∙ r .made in
     let h : count ≡ length (r .rest) / 2 = omega (arith, r .many) in
@@ -125,7 +125,7 @@ tells s xs pairs hi delay count end at1 at2 at3 o k a b c r =
     subst (λ (ps : List ℕ). AckTells s ps hi delay (count + 1) end) (sym p)
     (record {
       many = omega (arith, r .many);
-      descend = (r .holds, accepted-small s (widthOf ackType) hi at1 o a, r .descend);
+      descend = (r .holds, accepted-small s at hi at1 o a, r .descend);
       first = refl;
       shortest = encodes o t;
     })
@@ -157,12 +157,12 @@ ack-read-write s xs l d ranges used o e =
     let y : AckRead = readAck s xs in
     let ok : ackRefusal (y .answer) ≡ 0 = ap ackRefusal e in
     let k = type-read ackType s {y = y} _ refl (not-cut s xs y ok) (not s xs y ok OtherType (eqb-false 3 0 refl)) in
-    let a = field-read (readNumber s (widthOf ackType)) {y = y} (k .1) (not-cut s xs y ok) in
-    let b = field-read (readNumber s (a .1)) {y = y} (a .3) (not-cut s xs y ok) in
-    let c = field-read (readNumber s (b .1)) {y = y} (b .3) (not-cut s xs y ok) in
-    let w = answered s xs y ok (c .1) (a .0) (b .0) (c .0) (c .3) in
+    let a = field-read (readNumber s (k .0)) {y = y} (k .2) (not-cut s xs y ok) in
+    let b = field-read (readNumber s (a .1)) {y = y} (a .4) (not-cut s xs y ok) in
+    let c = field-read (readNumber s (b .1)) {y = y} (b .4) (not-cut s xs y ok) in
+    let w = answered s xs y ok (c .1) (a .0) (b .0) (c .0) (c .4) in
     let pairs : List ℕ = rangesFrom (c .0) s (c .1) (a .0) .pairs in
-    same {hi = a .0} {delay = b .0} {n = c .0 + 1} {end = w .0} {ys = splice xs 0 pairs} (w .2) (tells s xs pairs (a .0) (b .0) (c .0) (w .0) (a .1) (b .1) (c .1) o (k .0) (a .2) (b .2) (c .2) (walked (c .0) s (c .1) (a .0) (w .0) (w .1)))
+    same {hi = a .0} {delay = b .0} {n = c .0 + 1} {end = w .0} {ys = splice xs 0 pairs} (w .2) (tells s xs pairs (a .0) (b .0) (c .0) (w .0) (k .0) (a .1) (b .1) (c .1) o (k .1) (a .3) (b .3) (c .3) (walked (c .0) s (c .1) (a .0) (w .0) (w .1)))
   where
     same : {hi delay n end : ℕ} {ys : List ℕ} → record { answer = Frame hi delay n end; slice = ys } ≡ readAck s xs
         → AckTells s (take (2 * n) ys) hi delay n end → AckTells s (take (2 * ranges) (readAck s xs .slice)) l d ranges used

@@ -2,6 +2,7 @@
 -- Assumes nothing.
 use Prim.Native.Nat.{ℕ, suc, _+_, _-_, _*_, _/_, _≤_}
 use mathlib.Core.Path.{_≡_, refl, sym, ap, _∙_, subst}
+use mathlib.Core.Bool.{Bool, true}
 use mathlib.Core.List.{List, [], _∷_, _++_, append-assoc}
 use native.Mathlib.Nat.{zero-add}
 use native.Mathlib.Omega.{arith}
@@ -32,24 +33,24 @@ use Rattle.frames.proofs.Answers.{accepted}
 -- ---- ACK_FREQUENCY and IMMEDIATE_ACK
 
 -- the numbers that stand there are those of the answer
-pub frequency-stands : {s : List ℕ} {q t d r used : ℕ} → Stand s 0 (frequency q t d r) used → readNumber s 0 ≡ Value frequencyType (widthOf frequencyType)
+pub frequency-stands : {s : List ℕ} {q t d r used at : ℕ} → Stand s 0 (frequency q t d r) used → readNumber s 0 ≡ Value frequencyType at true
     → readFrequency s ≡ Frame q t d r used
-frequency-stands {s} (one {mid = m} k (one a (one b (one c (one e none))))) w =
-    let n : m ≡ widthOf frequencyType = cc in
-    sym (type-right frequencyType refl s _ _ _ refl w refl refl (next _ _ refl (rw n at (sym a)) (next _ _ refl (sym b) (next _ _ refl (sym c) (next _ _ refl (sym e) refl)))))
+frequency-stands {s} {at = at} (one {mid = m} k (one a (one b (one c (one e none))))) w =
+    let n : m ≡ at = cc in
+    sym (type-right frequencyType s _ _ _ refl w refl refl (next _ _ refl (rw n at (sym a)) (next _ _ refl (sym b) (next _ _ refl (sym c) (next _ _ refl (sym e) refl)))))
 
-pub immediate-stands : {s : List ℕ} {used : ℕ} → Stand s 0 immediate used → readNumber s 0 ≡ Value immediateType (widthOf immediateType) → readImmediate s ≡ Alone used
-immediate-stands {s} (one {mid = m} k none) w = let n : m ≡ widthOf immediateType = cc in rw n (sym (type-right immediateType refl s _ _ _ refl w refl refl refl))
+pub immediate-stands : {s : List ℕ} {used at : ℕ} → Stand s 0 immediate used → readNumber s 0 ≡ Value immediateType at true → readImmediate s ≡ Alone used
+immediate-stands {s} {at = at} (one {mid = m} k none) w = let n : m ≡ at = cc in rw n (sym (type-right immediateType s _ _ _ refl w refl refl refl))
 
 -- the frame's numbers vs, written at the start of s, stand there, and the type in its shortest form
 module _ (kind : ℕ) (vs s tl : List ℕ) (f : Small (kind ∷ vs)) (e : s ≡ encodeAll (kind ∷ vs) ++ tl) where
   written-stands : Stand s 0 (kind ∷ vs) (length (encodeAll (kind ∷ vs)))
   written-stands = subst (Stand s 0 (kind ∷ vs)) (zero-add (length (encodeAll (kind ∷ vs)))) (encoded-stand (kind ∷ vs) s [] tl 0 f e refl)
 
-  written-type : readNumber s 0 ≡ Value kind (widthOf kind)
+  written-type : readNumber s 0 ≡ Value kind (widthOf kind) true
   unfolding encodeAll
   written-type =
-      subst (λ (n : ℕ). readNumber s 0 ≡ Value kind n) (zero-add (widthOf kind))
+      subst (λ (n : ℕ). readNumber s 0 ≡ Value kind n true) (zero-add (widthOf kind))
       (sym (read-encoded s [] (encodeAll vs ++ tl) kind 0 (f .0) (e ∙ append-assoc (encode kind) (encodeAll vs) tl) refl))
 
 -- an encoded frame reads as its numbers, whatever follows it
@@ -83,8 +84,8 @@ immediate-write-read xs used e =
 -- ---- ACK
 
 -- one range, and those after it
-range-stands : (pairs s : List ℕ) (at mid to lo hi smallest largest end : ℕ) → lo ≤ hi → largest + 2 ≤ lo
-    → readNumber s at ≡ Value (hi - lo) mid → readNumber s mid ≡ Value (lo - largest - 2) to
+range-stands : (pairs s : List ℕ) (at mid to lo hi smallest largest end : ℕ) {a c : Bool} → lo ≤ hi → largest + 2 ≤ lo
+    → readNumber s at ≡ Value (hi - lo) mid a → readNumber s mid ≡ Value (lo - largest - 2) to c
     → rangesFrom (length pairs / 2) s to largest ≡ record { pairs = smallest ∷ largest ∷ pairs; walk = Whole end }
     → rangesFrom (suc (suc (length pairs)) / 2) s at hi ≡ record { pairs = lo ∷ hi ∷ smallest ∷ largest ∷ pairs; walk = Whole end }
 range-stands pairs s at mid to lo hi smallest largest end h b e g i =
@@ -93,7 +94,7 @@ range-stands pairs s at mid to lo hi smallest largest end h b e g i =
     let n : suc (suc (length pairs)) / 2 - 1 ≡ length pairs / 2 = omega arith in
     sym (rw (z, y, n, i) at (more (suc (suc (length pairs)) / 2) s at hi refl e refl (omega arith) (omega arith) g (omega arith)))
 
-last-stands : (s : List ℕ) (at lo hi end : ℕ) → lo ≤ hi → readNumber s at ≡ Value (hi - lo) end → rangesFrom 0 s at hi ≡ record { pairs = lo ∷ hi ∷ []; walk = Whole end }
+last-stands : (s : List ℕ) (at lo hi end : ℕ) {a : Bool} → lo ≤ hi → readNumber s at ≡ Value (hi - lo) end a → rangesFrom 0 s at hi ≡ record { pairs = lo ∷ hi ∷ []; walk = Whole end }
 last-stands s at lo hi end h e =
     let z : hi - (hi - lo) ≡ lo = omega arith in
     sym (rw z at (last 0 s at hi refl e refl (omega arith)))
@@ -130,16 +131,16 @@ even (smallest ∷ []) lo b = absurd b
 even (smallest ∷ largest ∷ pairs) lo b = omega (arith, even pairs smallest (b .2))
 
 -- with room for the ranges, the frame's numbers are the answer and the slice
-ack-stands : (s xs pairs : List ℕ) (delay lo hi used : ℕ) → lo ≤ hi → RangesBelow lo pairs → 2 * (length pairs / 2 + 1) ≤ length xs
-    → readNumber s 0 ≡ Value ackType (widthOf ackType) → Stand s 0 (ackType ∷ hi ∷ delay ∷ (length pairs / 2) ∷ (hi - lo) ∷ gapsFrom lo pairs) used
+ack-stands : (s xs pairs : List ℕ) (delay lo hi used start : ℕ) → lo ≤ hi → RangesBelow lo pairs → 2 * (length pairs / 2 + 1) ≤ length xs
+    → readNumber s 0 ≡ Value ackType start true → Stand s 0 (ackType ∷ hi ∷ delay ∷ (length pairs / 2) ∷ (hi - lo) ∷ gapsFrom lo pairs) used
     → readAck s xs ≡ record { answer = Read hi delay (length pairs / 2 + 1) used; slice = splice xs 0 (lo ∷ hi ∷ pairs) }
-ack-stands s xs pairs delay lo hi used h b room w (one {mid = m} k (one {mid = m1} a (one {mid = m2} c (one {mid = at} n t)))) =
-    let e : m ≡ widthOf ackType = cc in
+ack-stands s xs pairs delay lo hi used start h b room w (one {mid = m} k (one {mid = m1} a (one {mid = m2} c (one {mid = at} n t)))) =
+    let e : m ≡ start = cc in
     let r = ranges-stand pairs s at lo hi used h b t in
     let walked : Whole used ≡ rangesFrom (length pairs / 2) s at hi .walk = sym (ap (λ (x : Ranges). x .walk) r) in
     let wrote : splice xs 0 (lo ∷ hi ∷ pairs) ≡ splice xs 0 (rangesFrom (length pairs / 2) s at hi .pairs) = sym (ap (λ (x : Ranges). splice xs 0 (x .pairs)) r) in
     sym
-    (type-right ackType refl s _ _ _ refl w refl refl
+    (type-right ackType s _ _ _ refl w refl refl
     (next _ _ refl (rw e at (sym a)) (next _ _ refl (sym c) (next _ _ refl (sym n)
     (accepted s at hi delay (length pairs / 2) xs walked refl room wrote)))))
 
@@ -166,7 +167,7 @@ ack-back delay (lo ∷ hi ∷ pairs) tl xs r d h =
     let f : Small (ackType ∷ vs) = ack-small delay (lo ∷ hi ∷ pairs) r d in
     let n : length pairs / 2 + 1 ≡ suc (suc (length pairs)) / 2 = omega arith in
     rw (← n)
-    (ack-stands s xs pairs delay lo hi (length (encodeAll (ackType ∷ vs))) (r .0) (r .2) (omega (arith, even pairs lo (r .2)))
+    (ack-stands s xs pairs delay lo hi (length (encodeAll (ackType ∷ vs))) (widthOf ackType) (r .0) (r .2) (omega (arith, even pairs lo (r .2)))
     (written-type ackType vs s tl f refl) (written-stands ackType vs s tl f refl))
 
 -- the same where it was written with `wire::put_numbers` at the start of a buffer

@@ -12,7 +12,7 @@ use lib.Dec.{leb}
 use lib.ListN.{length}
 use Rattle.wire.specs.Bytes.{pick, splice}
 use Rattle.wire.specs.Fields.{field}
-use Rattle.wire.specs.Numbers.{widthOf, readNumber}
+use Rattle.wire.specs.Numbers.{readNumber}
 use Rattle.wire.specs.Exactly.{OneOf}
 use Rattle.wire.proofs.Lengths.{split}
 use Rattle.frames.specs.Types.{frequencyType, immediateType, ackType}
@@ -88,11 +88,11 @@ ack-others NoRoom = inr (inr (inr (inl refl)))
 ack-others Low = inr (inr (inr (inr (inl refl))))
 
 pub frequency-reads : FrequencyReads
-frequency-reads s = frame-reads (frame-rows frequencyRefusal frequencyType s Ends OtherType _ refl refl (rw four (chain-rows 4 s (widthOf frequencyType)))) (frequency-others (readFrequency s))
+frequency-reads s = frame-reads (frame-rows frequencyRefusal frequencyType s Ends OtherType _ refl refl (λ at. rw four (chain-rows 4 s at))) (frequency-others (readFrequency s))
 
 pub immediate-reads : ImmediateReads
 unfolding chain
-immediate-reads s = frame-reads (frame-rows immediateRefusal immediateType s Cut Another Alone refl refl (chain-rows 0 s (widthOf immediateType))) (immediate-others (readImmediate s))
+immediate-reads s = frame-reads (frame-rows immediateRefusal immediateType s Cut Another Alone refl refl (chain-rows 0 s)) (immediate-others (readImmediate s))
 
 -- ---- ACK: the ranges
 
@@ -261,7 +261,8 @@ ack-reads s xs =
     (λ vs. (length vs ≡ asked vs) × NotBelow vs × (length xs < 2 * (count vs + 1)))
     (λ vs. (length vs ≡ asked vs) × NotBelow vs × (2 * (count vs + 1) ≤ length xs)) =
     frame-rows refusal ackType s (refused Cut' xs) (refused OtherType' xs) _ refl refl
-    (rw three-fields
+    (λ at.
+    rw three-fields
     (field-rows (omega arith, omega arith) (λ p. omega (arith, p .1)) (λ p. omega (arith, p .0)) (λ p. omega (arith, p .0)) (λ largest at1.
     field-rows (omega arith, omega arith) (λ p. omega (arith, p .1)) (λ p. omega (arith, p .0)) (λ p. omega (arith, p .0)) (λ delay at2.
     field-rows (omega arith, omega arith) (λ p. omega (arith, p .1)) (λ p. omega (arith, p .0)) (λ p. omega (arith, p .0)) (λ count at3.

@@ -22,6 +22,7 @@ said = 0x02 ∷ 0x05 ∷ 0x00 ∷ 0x01 ∷ 0x02 ∷ 0x00 ∷ 0x01 ∷ []
 
 pub record Examples : Type 0 where
   pub P1 : readFrequency (0x40 ∷ 0xaf ∷ 0x05 ∷ 0x0a ∷ 0x80 ∷ 0x00 ∷ 0x61 ∷ 0xa8 ∷ 0x03 ∷ []) ≡ Frame 5 10 25000 3 9
+  pub longer-fields : readFrequency (0x40 ∷ 0xaf ∷ 0x40 ∷ 0x05 ∷ 0x80 ∷ 0x00 ∷ 0x00 ∷ 0x0a ∷ 0x80 ∷ 0x00 ∷ 0x61 ∷ 0xa8 ∷ 0xc0 ∷ 0x00 ∷ 0x00 ∷ 0x00 ∷ 0x00 ∷ 0x00 ∷ 0x00 ∷ 0x03 ∷ []) ≡ Frame 5 10 25000 3 20
   pub long-type : immediateRefusal (readImmediate (0x40 ∷ 0x1f ∷ [])) ≡ 3
   pub longer-type : frequencyRefusal (readFrequency (0x80 ∷ 0x00 ∷ 0x00 ∷ 0xaf ∷ [])) ≡ 3
   pub long-ack : (xs : List ℕ) → readAck (0x40 ∷ 0x02 ∷ []) xs ≡ refused OtherType xs
@@ -38,6 +39,7 @@ pub examples : Examples
 unfolding firstFrom widthOf encode encodeAll form readNumber readForm readFixed rangesFrom readRanges gapsFrom ackNumbers
 examples = record {
   P1 = refl;
+  longer-fields = refl;
   long-type = refl;
   longer-type = refl;
   long-ack = λ xs. refl;

@@ -10,8 +10,8 @@ use lib.Dec.{eqb, leb}
 use lib.ListN.{length, drop}
 use lib.Seq.{drop-at}
 use Rattle.wire.specs.Bytes.{pick, splice}
-use Rattle.wire.specs.Fields.{field}
-use Rattle.wire.specs.Numbers.{widthOf, readNumber}
+use Rattle.wire.specs.Fields.{formed, field}
+use Rattle.wire.specs.Numbers.{readNumber}
 use Rattle.wire.specs.declared.Number.{Number}
 use Rattle.wire.specs.declared.Number.the-variants.{Value, Ends as Stops}
 use Rattle.frames.specs.Types.{ackType}
@@ -24,9 +24,12 @@ use Rattle.frames.specs.declared.Ack.{Ack}
 use Rattle.frames.specs.declared.Ack.the-variants.{Frame, Ends as Cut, OtherType, BelowZero as Below, NoRoom}
 
 -- what holds of each answer of a chain holds of the chain
+formed-all : {R : Type 0} (P : R → Type 0) (r : Number) {x : R} {f : ℕ → ℕ → Bool → R} → P x → ((v n : ℕ) (b : Bool) → P (f v n b)) → P (formed r x f)
+formed-all P (Value v n b) p h = h v n b
+formed-all P Stops p h = p
+
 field-all : {R : Type 0} (P : R → Type 0) (r : Number) {x : R} {f : ℕ → ℕ → R} → P x → ((v n : ℕ) → P (f v n)) → P (field r x f)
-field-all P (Value v n) p h = h v n
-field-all P Stops p h = p
+field-all P r p h = formed-all P r p (λ v n b. h v n)
 
 pick-all : {R : Type 0} (P : R → Type 0) (b : Bool) {x y : R} → P x → P y → P (pick b x y)
 pick-all P true p q = p
@@ -97,9 +100,9 @@ kept-ranges s at largest delay count xs = go (rangesFrom count s at largest .wal
 
 kept : (s xs : List ℕ) → Kept xs (readAck s xs)
 kept s xs =
-    field-all (Kept xs) (readNumber s 0) (kept-refused Cut xs) (λ kind at.
+    formed-all (Kept xs) (readNumber s 0) (kept-refused Cut xs) (λ kind at shortest.
     pick-all (Kept xs) (eqb kind ackType)
-    (pick-all (Kept xs) (eqb at (widthOf ackType))
+    (pick-all (Kept xs) shortest
     (field-all (Kept xs) (readNumber s at) (kept-refused Cut xs) (λ largest at1.
     field-all (Kept xs) (readNumber s at1) (kept-refused Cut xs) (λ delay at2.
     field-all (Kept xs) (readNumber s at2) (kept-refused Cut xs) (λ count at3.

@@ -2,6 +2,7 @@
 -- Assumes nothing.
 use Prim.Native.Nat.{ℕ, zero, suc, _+_, _-_, _≤_, _<_}
 use mathlib.Core.Path.{_≡_, refl, sym, ap, _∙_}
+use mathlib.Core.Bool.{Bool}
 use mathlib.Core.List.{List, [], _∷_, append-assoc}
 use native.Mathlib.Nat.{add-zero}
 use native.Mathlib.Numerals.{add-one}
@@ -40,7 +41,7 @@ module _ (left : ℕ) (s : List ℕ) (at high : ℕ) {n : Number} (e : n ≡ rea
   pub length-cut : n ≡ Stops → ended Ends ≡ rangesFrom left s at high
   length-cut t = rw one-rule (stop _ _ t e)
 
-  module _ {len mid : ℕ} (t : n ≡ Value len mid) where
+  module _ {len mid : ℕ} {b : Bool} (t : n ≡ Value len mid b) where
     pub length-low : high < len → ended BelowZero ≡ rangesFrom left s at high
     length-low h = rw one-rule (next _ _ t e (no _ _ (lt-leb len high h) refl))
 
@@ -61,10 +62,10 @@ module _ (left : ℕ) (s : List ℕ) (at high : ℕ) {n : Number} (e : n ≡ rea
       pub gap-cut : m ≡ Stops → before (high - len) high (ended Ends) ≡ rangesFrom left s at high
       gap-cut u = length-in (ended Ends) h (some-left (stop _ _ u f))
 
-      pub gap-low : {gap to : ℕ} → m ≡ Value gap to → high - len < gap + 2 → before (high - len) high (ended BelowZero) ≡ rangesFrom left s at high
+      pub gap-low : {gap to : ℕ} {short : Bool} → m ≡ Value gap to short → high - len < gap + 2 → before (high - len) high (ended BelowZero) ≡ rangesFrom left s at high
       gap-low {gap} u l = length-in (ended BelowZero) h (some-left (next _ _ u f (no _ _ (lt-leb (gap + 2) (high - len) l) refl)))
 
-      pub more : {gap to : ℕ} → m ≡ Value gap to → gap + 2 ≤ high - len
+      pub more : {gap to : ℕ} {short : Bool} → m ≡ Value gap to short → gap + 2 ≤ high - len
           → before (high - len) high (rangesFrom (left - 1) s to (high - len - gap - 2)) ≡ rangesFrom left s at high
       more {gap} u l = length-in _ h (some-left (next _ _ u f (yes _ _ (le-leb (gap + 2) (high - len) l) refl)))
 

@@ -9,8 +9,8 @@ use native.Mathlib.Omega.{arith}
 use borrow.Author.Tests.{eqb-false, eqb-true}
 use lib.Dec.{eqb}
 use Rattle.wire.specs.Bytes.{pick}
-use Rattle.wire.specs.Fields.{field}
-use Rattle.wire.specs.Numbers.{widthOf, readNumber}
+use Rattle.wire.specs.Fields.{formed, field}
+use Rattle.wire.specs.Numbers.{readNumber}
 use Rattle.wire.specs.Standing.{Stand, none, one}
 use Rattle.wire.specs.declared.Number.{Number}
 use Rattle.wire.specs.declared.Number.the-variants.{Value, Ends}
@@ -43,7 +43,7 @@ here a = (λ e. a, λ b. refl)
 
 -- ---- a field
 
-module _ {s : List ℕ} {at v mid : ℕ} (e : readNumber s at ≡ Value v mid) {P : List ℕ → ℕ → Type 0} where
+module _ {s : List ℕ} {at v mid : ℕ} {b : Bool} (e : readNumber s at ≡ Value v mid b) {P : List ℕ → ℕ → Type 0} where
   -- a number more, and one less
   longer : From s mid (λ vs next. P (v ∷ vs) next) → From s at P
   longer r = record { numbers = v ∷ r .numbers; next = r .next; stand = one e (r .stand); holds = r .holds }
@@ -66,7 +66,7 @@ stuck {s} {at} {P} e f r = go (r .stand) (r .holds)
     go none p = f p
     go (one d t) p = let z : _≡_ {A = ℕ} 0 1 = cc in omega arith
 
-no-value : {v n : ℕ} {r : Number} → r ≡ Value v n → r ≡ Ends → ⊥
+no-value : {v n : ℕ} {b : Bool} {r : Number} → r ≡ Value v n b → r ≡ Ends → ⊥
 no-value e f = let z : _≡_ {A = ℕ} 0 1 = cc in omega arith
 
 pub field-rows : {s : List ℕ} {at : ℕ} {rest : ℕ → ℕ → ℕ} {cut low short whole : List ℕ → Type 0}
@@ -76,7 +76,7 @@ pub field-rows : {s : List ℕ} {at : ℕ} {rest : ℕ → ℕ → ℕ} {cut low
 field-rows {s} {at} {rest} {cut} {low} {short} {whole} c l h w rows = go (readNumber s at) refl
   where
     go : (n : Number) → readNumber s at ≡ n → Rows s at (field n 2 rest) cut low short whole
-    go (Value v next) e =
+    go (Value v next b) e =
         let r = rows v next in
         record {
           three = r .three;
@@ -121,12 +121,12 @@ pub record FrameRows (kind : ℕ) (s : List ℕ) (refusal : ℕ) (cut low short 
   pub accepted : refusal ≡ 0 ↔ After kind s (λ vs next. whole vs)
 
 typed-rows : {kind : ℕ} {s : List ℕ} (rest : ℕ → ℕ) {cut low short whole : List ℕ → Type 0}
-    → Rows s (widthOf kind) (rest (widthOf kind)) cut low short whole → FrameRows kind s (typed kind s 2 3 rest) cut low short whole
-typed-rows {kind} {s} rest {cut} {low} {short} {whole} r = go (readNumber s 0) refl
+    → ((at : ℕ) → Rows s at (rest at) cut low short whole) → FrameRows kind s (typed kind s 2 3 rest) cut low short whole
+typed-rows {kind} {s} rest {cut} {low} {short} {whole} rows = go (readNumber s 0) refl
   where
-    another : {v next : ℕ} → readNumber s 0 ≡ Value v next → ((v ≡ kind) × (next ≡ widthOf kind) → ⊥) → FrameRows kind s 3 cut low short whole
-    another {v} {next} e f = record {
-      three = here (record { value = v; next = next; whole = e; other = f });
+    another : {v next : ℕ} {b : Bool} → readNumber s 0 ≡ Value v next b → ((v ≡ kind) × (b ≡ true) → ⊥) → FrameRows kind s 3 cut low short whole
+    another {v} {next} {b} e f = record {
+      three = here (record { value = v; next = next; shortest = b; whole = e; other = f });
       two = never (eqb-false 3 2 refl) (⊎-elim (no-value e) no);
       fourteen = never (eqb-false 3 14 refl) no;
       nine = never (eqb-false 3 9 refl) no;
@@ -136,30 +136,32 @@ typed-rows {kind} {s} rest {cut} {low} {short} {whole} r = go (readNumber s 0) r
         no : {P : List ℕ → ℕ → Type 0} → After kind s P → ⊥
         no a = let t = a .type in f (cc, cc)
 
-    right : readNumber s 0 ≡ Value kind (widthOf kind) → FrameRows kind s (rest (widthOf kind)) cut low short whole
-    right e = record {
-      three = (λ q. absurd (r .three q), λ o. absurd (o .other (same (o .whole))));
-      two = (λ q. inr (record { type = e; fields = r .two .0 q }), ⊎-elim (λ f. absurd (no-value e f)) (λ a. r .two .1 (a .fields)));
-      fourteen = (λ q. record { type = e; fields = r .fourteen .0 q }, λ a. r .fourteen .1 (a .fields));
-      nine = (λ q. record { type = e; fields = r .nine .0 q }, λ a. r .nine .1 (a .fields));
-      accepted = (λ q. record { type = e; fields = r .accepted .0 q }, λ a. r .accepted .1 (a .fields));
-    }
+    right : (next : ℕ) → readNumber s 0 ≡ Value kind next true → FrameRows kind s (rest next) cut low short whole
+    right next e =
+        let r = rows next in
+        record {
+          three = (λ q. absurd (r .three q), λ o. absurd (o .other (same (o .whole))));
+          two = (λ q. inr (record { start = next; type = e; fields = r .two .0 q }), ⊎-elim (λ f. absurd (no-value e f)) (λ a. r .two .1 (there a)));
+          fourteen = (λ q. record { start = next; type = e; fields = r .fourteen .0 q }, λ a. r .fourteen .1 (there a));
+          nine = (λ q. record { start = next; type = e; fields = r .nine .0 q }, λ a. r .nine .1 (there a));
+          accepted = (λ q. record { start = next; type = e; fields = r .accepted .0 q }, λ a. r .accepted .1 (there a));
+        }
       where
-        same : {v next : ℕ} → readNumber s 0 ≡ Value v next → (v ≡ kind) × (next ≡ widthOf kind)
+        same : {v n : ℕ} {b : Bool} → readNumber s 0 ≡ Value v n b → (v ≡ kind) × (b ≡ true)
         same t = (cc, cc)
 
-    judge : (v next : ℕ) → readNumber s 0 ≡ Value v next → (a b : Bool) → eqb v kind ≡ a → eqb next (widthOf kind) ≡ b
+        there : {P : List ℕ → ℕ → Type 0} → After kind s P → From s next P
+        there {P} a = let t = a .type in let n : a .start ≡ next = cc in subst (λ (m : ℕ). From s m P) n (a .fields)
+
+    judge : (v next : ℕ) (b : Bool) → readNumber s 0 ≡ Value v next b → (a : Bool) → eqb v kind ≡ a
         → FrameRows kind s (pick a (pick b (rest next) 3) 3) cut low short whole
-    judge v next e true true p q =
-        let m : v ≡ kind = eqb-true v kind p in
-        let n : next ≡ widthOf kind = eqb-true next (widthOf kind) q in
-        rw n (right (rw (m, n) at e))
-    judge v next e true false p q = another e (λ m. eqb-false next (widthOf kind) q (m .1))
-    judge v next e false b p q = another e (λ m. eqb-false v kind p (m .0))
+    judge v next true e true p = let m : v ≡ kind = eqb-true v kind p in right next (rw m at e)
+    judge v next false e true p = another e (λ m. let z : _≡_ {A = ℕ} 0 1 = cc in omega arith)
+    judge v next b e false p = another e (λ m. eqb-false v kind p (m .0))
 
     go : (n : Number) → readNumber s 0 ≡ n
-        → FrameRows kind s (field n 2 (λ v next. pick (eqb v kind) (pick (eqb next (widthOf kind)) (rest next) 3) 3)) cut low short whole
-    go (Value v next) e = judge v next e (eqb v kind) (eqb next (widthOf kind)) refl refl
+        → FrameRows kind s (formed n 2 (λ v next shortest. pick (eqb v kind) (pick shortest (rest next) 3) 3)) cut low short whole
+    go (Value v next b) e = judge v next b e (eqb v kind) refl
     go Ends e = record {
       three = never (eqb-false 2 3 refl) (λ o. no-value (o .whole) e);
       two = here (inl e);
@@ -170,18 +172,22 @@ typed-rows {kind} {s} rest {cut} {low} {short} {whole} r = go (readNumber s 0) r
 
 -- ---- the number of an answer goes through the chain that makes it
 
+through-formed : {A : Type 0} (g : A → ℕ) (r : Number) {x : A} {y : ℕ} {f : ℕ → ℕ → Bool → A} {k : ℕ → ℕ → Bool → ℕ}
+    → g x ≡ y → ((v n : ℕ) (b : Bool) → g (f v n b) ≡ k v n b) → g (formed r x f) ≡ formed r y k
+through-formed g (Value v n b) e h = h v n b
+through-formed g Ends e h = e
+
 pub through : {A : Type 0} (g : A → ℕ) (r : Number) {x : A} {y : ℕ} {f : ℕ → ℕ → A} {k : ℕ → ℕ → ℕ}
     → g x ≡ y → ((v n : ℕ) → g (f v n) ≡ k v n) → g (field r x f) ≡ field r y k
-through g (Value v n) e h = h v n
-through g Ends e h = e
+through g r e h = through-formed g r e (λ v n b. h v n)
 
 -- the rows of a frame, by those of what comes after its type: g gives the number of an answer
 pub frame-rows : {A : Type 0} (g : A → ℕ) (kind : ℕ) (s : List ℕ) (ends other : A) (f : ℕ → A) {cut low short whole : List ℕ → Type 0}
     → g ends ≡ 2 → g other ≡ 3
-    → Rows s (widthOf kind) (g (f (widthOf kind))) cut low short whole → FrameRows kind s (g (typed kind s ends other f)) cut low short whole
+    → ((at : ℕ) → Rows s at (g (f at)) cut low short whole) → FrameRows kind s (g (typed kind s ends other f)) cut low short whole
 frame-rows g kind s ends other f {cut} {low} {short} {whole} e o r =
     subst (λ (n : ℕ). FrameRows kind s n cut low short whole)
-    (sym (through g (readNumber s 0) e (λ v n. go (eqb v kind) (eqb n (widthOf kind)) (f n))))
+    (sym (through-formed g (readNumber s 0) e (λ v n b. go (eqb v kind) b (f n))))
     (typed-rows (λ at. g (f at)) r)
   where
     go : (a b : Bool) (x : _) → g (pick a (pick b x other) other) ≡ pick a (pick b (g x) 3) 3

@@ -8,8 +8,8 @@ use native.Mathlib.Omega.{arith}
 use borrow.Author.Tests.{eqb-true}
 use lib.Dec.{eqb}
 use Rattle.wire.specs.Bytes.{pick, Octets}
-use Rattle.wire.specs.Fields.{field}
-use Rattle.wire.specs.Numbers.{widthOf, readNumber}
+use Rattle.wire.specs.Fields.{formed, field}
+use Rattle.wire.specs.Numbers.{readNumber}
 use Rattle.wire.specs.Standing.{Stand, none, one}
 use Rattle.wire.specs.declared.Number.{Number}
 use Rattle.wire.specs.declared.Number.the-variants.{Value, Ends}
@@ -23,10 +23,14 @@ use Rattle.frames.specs.declared.Immediate.the-variants.{Frame as Alone,
 
 -- ---- an answer that is no refusal tells what was read
 
+pub formed-read : {R : Type 0} (r : Number) {x y : R} {f : ℕ → ℕ → Bool → R} → formed r x f ≡ y → (x ≡ y → ⊥)
+    → (v : ℕ) × (n : ℕ) × (b : Bool) × (r ≡ Value v n b) × (f v n b ≡ y)
+formed-read (Value v n b) e f = (v, n, b, refl, e)
+formed-read Ends e f = absurd (f e)
+
 pub field-read : {R : Type 0} (r : Number) {x y : R} {f : ℕ → ℕ → R} → field r x f ≡ y → (x ≡ y → ⊥)
-    → (v : ℕ) × (n : ℕ) × (r ≡ Value v n) × (f v n ≡ y)
-field-read (Value v n) e f = (v, n, refl, e)
-field-read Ends e f = absurd (f e)
+    → (v : ℕ) × (n : ℕ) × (b : Bool) × (r ≡ Value v n b) × (f v n ≡ y)
+field-read r e f = formed-read r e f
 
 pub test-held : {R : Type 0} (b : Bool) {x y z : R} → pick b x z ≡ y → (z ≡ y → ⊥) → (b ≡ true) × (x ≡ y)
 test-held true e f = (refl, e)
@@ -34,14 +38,14 @@ test-held false e f = absurd (f e)
 
 pub type-read : {R : Type 0} (kind : ℕ) (s : List ℕ) {ends other y : R} (f : ℕ → R)
     → typed kind s ends other f ≡ y → (ends ≡ y → ⊥) → (other ≡ y → ⊥)
-    → (readNumber s 0 ≡ Value kind (widthOf kind)) × (f (widthOf kind) ≡ y)
+    → (at : ℕ) × (readNumber s 0 ≡ Value kind at true) × (f at ≡ y)
 type-read kind s f e not-cut not-other =
-    let r = field-read (readNumber s 0) e not-cut in
-    let a = test-held (eqb (r .0) kind) (r .3) not-other in
-    let b = test-held (eqb (r .1) (widthOf kind)) (a .1) not-other in
+    let r = formed-read (readNumber s 0) e not-cut in
+    let a = test-held (eqb (r .0) kind) (r .4) not-other in
+    let b = test-held (r .2) (a .1) not-other in
     let m : r .0 ≡ kind = eqb-true (r .0) kind (a .0) in
-    let n : r .1 ≡ widthOf kind = eqb-true (r .1) (widthOf kind) (b .0) in
-    (r .2 ∙ rw (m, n), rw n at (b .1))
+    let n : r .2 ≡ true = b .0 in
+    (r .1, r .3 ∙ rw (m, n), b .1)
 
 -- ---- ACK_FREQUENCY
 
@@ -55,11 +59,11 @@ module _ (s : List ℕ) (q t d r used : ℕ) (e : readFrequency s ≡ Frame q t 
   pub frequency-read : Stand s 0 (frequency q t d r) used
   frequency-read =
       let k = type-read frequencyType s _ e no-cut no-other in
-      let a = field-read (readNumber s (widthOf frequencyType)) (k .1) no-cut in
-      let b = field-read (readNumber s (a .1)) (a .3) no-cut in
-      let c = field-read (readNumber s (b .1)) (b .3) no-cut in
-      let f = field-read (readNumber s (c .1)) (c .3) no-cut in
-      same (f .3) (one (k .0) (one (a .2) (one (b .2) (one (c .2) (one (f .2) none)))))
+      let a = field-read (readNumber s (k .0)) (k .2) no-cut in
+      let b = field-read (readNumber s (a .1)) (a .4) no-cut in
+      let c = field-read (readNumber s (b .1)) (b .4) no-cut in
+      let f = field-read (readNumber s (c .1)) (c .4) no-cut in
+      same (f .4) (one (k .1) (one (a .3) (one (b .3) (one (c .3) (one (f .3) none)))))
     where
       same : {q' t' d' r' used' : ℕ} → Frame q' t' d' r' used' ≡ Frame q t d r used → Stand s 0 (frequency q' t' d' r') used'
           → Stand s 0 (frequency q t d r) used
@@ -83,7 +87,7 @@ module _ (s : List ℕ) (used : ℕ) (e : readImmediate s ≡ Alone used) where
   pub immediate-read : Stand s 0 immediate used
   immediate-read =
       let k = type-read immediateType s Alone e no-cut-alone no-another in
-      same (k .1) (one (k .0) none)
+      same (k .2) (one (k .1) none)
     where
       same : {used' : ℕ} → Alone used' ≡ Alone used → Stand s 0 immediate used' → Stand s 0 immediate used
       same {used'} h st = let h1 : used' ≡ used = cc in rw h1 at st

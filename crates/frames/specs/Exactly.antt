@@ -2,9 +2,10 @@
 use Prim.Native.Nat.{ℕ, _+_, _-_, _*_, _≤_, _<_}
 use mathlib.Core.Path.{_≡_}
 use mathlib.Core.Logic.{_↔_, _⊎_}
+use mathlib.Core.Bool.{Bool, true}
 use mathlib.Core.List.{List, [], _∷_}
 use lib.ListN.{length, getD, drop}
-use Rattle.wire.specs.Numbers.{widthOf, encodeAll, readNumber, putAnswer}
+use Rattle.wire.specs.Numbers.{encodeAll, readNumber, putAnswer}
 use Rattle.wire.specs.Refusals.{putRefusal}
 use Rattle.wire.specs.Exactly.{OneOf, Writes, Places}
 use Rattle.wire.specs.Standing.{Stand}
@@ -27,8 +28,9 @@ pub record From (s : List ℕ) (at : ℕ) (P : List ℕ → ℕ → Type 0) : Ty
 
 -- the type is kind in its shortest form, and numbers of which P holds stand after it
 pub record After (kind : ℕ) (s : List ℕ) (P : List ℕ → ℕ → Type 0) : Type 0 where
-  pub type : readNumber s 0 ≡ Value kind (widthOf kind)
-  pub fields : From s (widthOf kind) P
+  pub start : ℕ
+  pub type : readNumber s 0 ≡ Value kind start true
+  pub fields : From s start P
 
 -- ---- the rows
 
@@ -36,8 +38,9 @@ pub record After (kind : ℕ) (s : List ℕ) (P : List ℕ → ℕ → Type 0) :
 pub record OtherType (kind : ℕ) (s : List ℕ) : Type 0 where
   pub value : ℕ
   pub next : ℕ
-  pub whole : readNumber s 0 ≡ Value value next
-  pub other : (value ≡ kind) × (next ≡ widthOf kind) → ⊥
+  pub shortest : Bool
+  pub whole : readNumber s 0 ≡ Value value next shortest
+  pub other : (value ≡ kind) × (shortest ≡ true) → ⊥
 
 -- 2: the bytes end inside the type, or, the type being right, inside a number that those before it ask for
 abbrev pub Cut : ℕ → List ℕ → (List ℕ → Type 0) → Type 0

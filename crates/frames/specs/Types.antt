@@ -3,8 +3,8 @@ use Prim.Native.Nat.{ℕ}
 use mathlib.Core.List.{List}
 use lib.Dec.{eqb}
 use Rattle.wire.specs.Bytes.{pick}
-use Rattle.wire.specs.Fields.{field}
-use Rattle.wire.specs.Numbers.{readNumber, widthOf}
+use Rattle.wire.specs.Fields.{formed}
+use Rattle.wire.specs.Numbers.{readNumber}
 
 -- ACK_FREQUENCY: "type 0xaf, written 40 af"
 abbrev pub frequencyType : ℕ
@@ -21,4 +21,4 @@ ackType = 0x02
 -- 2 inside the type; 3, before later fields are read, where "the frame type is another one, or not in shortest form"
 abbrev pub typed : {R : Type 0} → ℕ → List ℕ → R → R → (ℕ → R) → R
 typed kind s ends other f =
-    field (readNumber s 0) ends (λ v next. pick (eqb v kind) (pick (eqb next (widthOf kind)) (f next) other) other)
+    formed (readNumber s 0) ends (λ v next shortest. pick (eqb v kind) (pick shortest (f next) other) other)

@@ -20,7 +20,12 @@ fn check_ranges(s: &[u8], at: usize, largest: u64, count: u64) -> Walk
     let mut place = at;
     let mut left = count;
     loop {
-        let Number::Value { value: len, next } = wire::read_number(s, place) else {
+        let Number::Value {
+            value: len,
+            next,
+            ..
+        } = wire::read_number(s, place)
+        else {
             return Walk::Ends;
         };
         if high < len {
@@ -33,6 +38,7 @@ fn check_ranges(s: &[u8], at: usize, largest: u64, count: u64) -> Walk
         let Number::Value {
             value: gap,
             next: after,
+            ..
         } = wire::read_number(s, next)
         else {
             return Walk::Ends;
@@ -57,7 +63,12 @@ fn fill_ranges(ranges: &mut [u64], s: &[u8], at: usize, first: u64, count: u64)
     let mut left = count;
     let mut i: usize = 0;
     loop {
-        let Number::Value { value: len, next } = wire::read_number(s, place) else {
+        let Number::Value {
+            value: len,
+            next,
+            ..
+        } = wire::read_number(s, place)
+        else {
             return;
         };
         if largest < len {
@@ -72,6 +83,7 @@ fn fill_ranges(ranges: &mut [u64], s: &[u8], at: usize, first: u64, count: u64)
         let Number::Value {
             value: gap,
             next: after,
+            ..
         } = wire::read_number(s, next)
         else {
             return;
@@ -118,6 +130,7 @@ pub fn read_ack(s: &[u8], ranges: &mut [u64]) -> Ack
     let Number::Value {
         value: kind,
         next: at0,
+        shortest,
     } = wire::read_number(s, 0)
     else {
         return Ack::Ends;
@@ -125,13 +138,13 @@ pub fn read_ack(s: &[u8], ranges: &mut [u64]) -> Ack
     if kind != ACK {
         return Ack::OtherType;
     }
-    // The shortest form of 0x02 takes one byte.
-    if at0 != 1 {
+    if !shortest {
         return Ack::OtherType;
     }
     let Number::Value {
         value: largest,
         next: at1,
+        ..
     } = wire::read_number(s, at0)
     else {
         return Ack::Ends;
@@ -139,6 +152,7 @@ pub fn read_ack(s: &[u8], ranges: &mut [u64]) -> Ack
     let Number::Value {
         value: delay,
         next: at2,
+        ..
     } = wire::read_number(s, at1)
     else {
         return Ack::Ends;
@@ -146,6 +160,7 @@ pub fn read_ack(s: &[u8], ranges: &mut [u64]) -> Ack
     let Number::Value {
         value: count,
         next: at3,
+        ..
     } = wire::read_number(s, at2)
     else {
         return Ack::Ends;

@@ -16,6 +16,7 @@ fn read_thresholds(s: &[u8], at: usize) -> Frequency
     let Number::Value {
         value: sequence,
         next: at1,
+        ..
     } = wire::read_number(s, at)
     else {
         return Frequency::Ends;
@@ -23,6 +24,7 @@ fn read_thresholds(s: &[u8], at: usize) -> Frequency
     let Number::Value {
         value: threshold,
         next: at2,
+        ..
     } = wire::read_number(s, at1)
     else {
         return Frequency::Ends;
@@ -30,6 +32,7 @@ fn read_thresholds(s: &[u8], at: usize) -> Frequency
     let Number::Value {
         value: delay,
         next: at3,
+        ..
     } = wire::read_number(s, at2)
     else {
         return Frequency::Ends;
@@ -37,6 +40,7 @@ fn read_thresholds(s: &[u8], at: usize) -> Frequency
     let Number::Value {
         value: reordering,
         next: used,
+        ..
     } = wire::read_number(s, at3)
     else {
         return Frequency::Ends;
@@ -57,6 +61,7 @@ pub fn read_frequency(s: &[u8]) -> Frequency
     let Number::Value {
         value: kind,
         next: at0,
+        shortest,
     } = wire::read_number(s, 0)
     else {
         return Frequency::Ends;
@@ -64,8 +69,7 @@ pub fn read_frequency(s: &[u8]) -> Frequency
     if kind != ACK_FREQUENCY {
         return Frequency::OtherType;
     }
-    // The shortest form of 0xaf takes two bytes.
-    if at0 != 2 {
+    if !shortest {
         return Frequency::OtherType;
     }
     read_thresholds(s, at0)

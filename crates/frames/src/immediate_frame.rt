@@ -16,6 +16,7 @@ pub fn read_immediate(s: &[u8]) -> Immediate
     let Number::Value {
         value: kind,
         next: used,
+        shortest,
     } = wire::read_number(s, 0)
     else {
         return Immediate::Ends;
@@ -23,8 +24,7 @@ pub fn read_immediate(s: &[u8]) -> Immediate
     if kind != IMMEDIATE_ACK {
         return Immediate::OtherType;
     }
-    // The shortest form of 0x1f takes one byte.
-    if used != 1 {
+    if !shortest {
         return Immediate::OtherType;
     }
     Immediate::Frame { used }

@@ -6,12 +6,13 @@ mod codec;
 mod numbers;
 mod reports;
 
-// A number that was read, and the place after it.
+// A number that was read, the place after it, and 1 where its form was the shortest.
 #[repr(C)]
 pub struct NumberOut {
     pub result: u64,
     pub value: u64,
     pub next: u64,
+    pub shortest: u64,
 }
 
 // What a writer of numbers and frames answers: the place after what was written.

@@ -8,21 +8,27 @@ use crate::PutOut;
 use wire::Number;
 use wire::Put;
 
-// A value and the place after it, or the refusal.
+// A value, the place after it and 1 for the shortest form, or the refusal.
 fn number_out(answer: Number) -> NumberOut
     ensures { λ r. ⌜ r ≡ numberOut answer ⌝ }
 {
     let result = answer.refusal();
     match answer {
-        Number::Value { value, next } => NumberOut {
+        Number::Value {
+            value,
+            next,
+            shortest,
+        } => NumberOut {
             result,
             value,
             next: next as u64,
+            shortest: shortest as u64,
         },
         Number::Ends => NumberOut {
             result,
             value: 0,
             next: 0,
+            shortest: 0,
         },
     }
 }

@@ -9,9 +9,9 @@ use borrow.Author.Tests.{le-leb, le-ltb, eq-eqb, ne-eqb}
 use lib.ListN.{length, getD, take, drop, length-append}
 use lib.Seq.{take-all, take-at, drop-at, drop-append-seam}
 use Rattle.wire.specs.Numbers.{limit, encodeAll}
-use Rattle.wire.specs.Standing.{Stand}
+use Rattle.wire.specs.Standing.{StandShortest}
 use Rattle.wire.proofs.Small.{all-small}
-use Rattle.wire.proofs.Standing.{encoded-stand}
+use Rattle.wire.proofs.Standing.{encoded-short}
 use Rattle.entries.specs.Limits.{recordSize, mostEntries}
 use Rattle.entries.specs.Fitting.{lastOf}
 use Rattle.entries.proofs.Last.{last-good as records-good}
@@ -70,7 +70,7 @@ module _ (h : Header) (entries : List ℕ) (room next kept : ℕ) (a : Accepted 
 
   written-headed : Headed bytes ns (length (encodeAll ns))
   written-headed = record {
-    stand = subst (Stand bytes 0 ns) (zero-add (length (encodeAll ns))) (encoded-stand ns bytes [] (lastOf entries kept) 0 (all-small ns .0 (numbers-small a)) refl refl);
+    stand = subst (StandShortest bytes 0 ns) (zero-add (length (encodeAll ns))) (encoded-short ns bytes [] (lastOf entries kept) 0 (all-small ns .0 (numbers-small a)) refl refl);
     good = all-good h (a .fault) kept (kept-limit a);
     whole = all-wanted h (a .fault) kept (kept-limit a);
   }

@@ -16,10 +16,10 @@ use Rattle.entries.specs.Limits.{recordSize}
 use Rattle.report.specs.Header.{judge, countOf}
 use Rattle.entries.specs.Entries.{entriesGood}
 use Rattle.report.specs.Reader.{Reading, Whole, Stopped, readNumbers, partOf, judgeEntries, reportReading, reportOf, readReport}
-use Rattle.report.specs.Exactly.{EndsInside, Faulty, TooFew, BadEntry, Behind, Sound, ReportReads}
+use Rattle.report.specs.Exactly.{EndsInside, Longer, Faulty, TooFew, BadEntry, Behind, Sound, ReportReads}
 use Rattle.report.proofs.Rows.{Table, end, row, Row, one-of}
 use Rattle.report.proofs.Places.{place-judged}
-use Rattle.report.proofs.Following.{End, inside, fault, header, numbers-end, headed-whole, open-ends, open-fault}
+use Rattle.report.proofs.Following.{End, inside, longer, fault, header, numbers-end, headed-whole, open-ends, open-longer, open-fault}
 
 -- ---- the row of each number
 
@@ -30,7 +30,8 @@ table s =
     (row 10 (Faulty 10 s)
     (row 11 (Faulty 11 s)
     (row 12 (BadEntry s)
-    (row 13 (Behind s) end)))))
+    (row 13 (Behind s)
+    (row 15 (Longer s) end))))))
 
 refusalIn : Reading → ℕ
 refusalIn (Whole ns at) = 0
@@ -45,6 +46,7 @@ refusal-is (Stopped n) = refl
 in-row : (s : List ℕ) (r : Reading) → End s r → Row (table s) (refusalIn (judgeEntries s r))
 unfolding refusalIn judgeEntries
 in-row s (Stopped n) (inside x) = inl x
+in-row s (Stopped n) (longer x) = x
 in-row s (Stopped n) (fault f z) = go (place-judged (f .ns) (f .v) .others)
   where
     go : OneOf (judge (f .ns) (f .v)) (0 ∷ 10 ∷ 11 ∷ []) → Row (table s) n
@@ -75,6 +77,10 @@ module _ (s : List ℕ) where
   to-inside : EndsInside s → readReport s .refusal ≡ 2
   unfolding refusalIn judgeEntries
   to-inside x = by (Stopped 2) (open-ends s (x .ns) (x .at) (x .far) (x .ends))
+
+  to-longer : Longer s → readReport s .refusal ≡ 15
+  unfolding refusalIn judgeEntries
+  to-longer x = by (Stopped 15) (open-longer s (x .ns) (x .at) (x .far) (x .v) (x .next) (x .reads))
 
   to-fault : (n : ℕ) → (n ≡ 0 → ⊥) → Faulty n s → readReport s .refusal ≡ n
   unfolding refusalIn judgeEntries
@@ -116,6 +122,7 @@ report-reads s = record {
   eleven = (λ e. at-row s 11 e, to-fault s 11 (eqb-false 11 0 refl));
   twelve = (λ e. at-row s 12 e, to-bad s);
   thirteen = (λ e. at-row s 13 e, to-behind s);
+  fifteen = (λ e. at-row s 15 e, to-longer s);
   accepted = (λ e. at-row s 0 e, to-sound s);
   others = one-of (table s) (readReport s .refusal) (at-row s (readReport s .refusal) refl);
 }

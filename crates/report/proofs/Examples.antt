@@ -1,4 +1,4 @@
--- P9 and P10 of document 01 hold on the definitions: antt computes them.
+-- P9 and P10 of document 01 and the longer forms of No. 5 hold on the definitions: antt computes them.
 -- Assumes nothing.
 use mathlib.Core.Path.{refl}
 use Rattle.wire.specs.Fields.{readFixed}
@@ -8,7 +8,7 @@ use Rattle.entries.specs.Fitting.{largestWithin}
 use Rattle.report.specs.Header.{judgeLater, judge, faultAfter, headerOf, pairs, numbersOf, emptyHeader}
 use Rattle.report.specs.Reader.{numbersFrom, judgeEntries, reportReading, reportOf, entriesIn}
 use Rattle.report.specs.Writer.{planned, storedAs}
-use Rattle.report.specs.Examples.{Examples}
+use Rattle.report.specs.Examples.{Examples, LongerForms}
 
 pub examples : Examples
 unfolding firstFrom widthOf form encode encodeAll allSmall readFixed readForm readNumber judgeLater judge faultAfter headerOf pairs numbersOf emptyHeader entryFrom entryOf recordsGood entriesFault numbersFrom judgeEntries reportReading reportOf entriesIn largestWithin planned storedAs
@@ -20,4 +20,21 @@ examples = record {
   P10-none = (refl, refl);
   P10-refused = (refl, refl);
   P10-read = (refl, refl);
+}
+
+pub longer-forms : LongerForms
+unfolding firstFrom readFixed readForm readNumber judgeLater judge recordsGood numbersFrom judgeEntries reportReading reportOf
+longer-forms = record {
+  first = refl;
+  four-bytes = refl;
+  eight-bytes = refl;
+  cut = refl;
+  lost-before-sum = refl;
+  sum-before-average = refl;
+  count-before-ten = refl;
+  type-before-ten = refl;
+  value = refl;
+  last = refl;
+  last-before-ten = refl;
+  shortest = refl;
 }

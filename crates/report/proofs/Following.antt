@@ -1,4 +1,4 @@
--- Numbers that stand one after the other and are judged good are read one after the other; and what was read stands so.
+-- Numbers that stand one after the other in their shortest forms and are judged good are read one after the other; and what was read stands so.
 -- Assumes nothing.
 use Prim.Native.Nat.{ℕ, zero, suc, _+_, _-_, _≤_, _<_, zero-le, suc-le-suc}
 use mathlib.Core.Path.{_≡_, refl, sym, ap, _∙_}
@@ -10,18 +10,18 @@ use borrow.Author.Tests.{le-leb, lt-leb, ne-eqb, leb-true, leb-false, eqb-true, 
 use lib.Dec.{leb, eqb}
 use lib.ListN.{length, getD, length-append, List·getD-append, List·getD-eq-default}
 use Rattle.wire.specs.Bytes.{pick}
-use Rattle.wire.specs.Fields.{field}
+use Rattle.wire.specs.Fields.{formed}
 use Rattle.wire.specs.Numbers.{readNumber}
 use Rattle.wire.specs.declared.Number.{Number}
 use Rattle.wire.specs.declared.Number.the-variants.{Value, Ends}
-use Rattle.wire.specs.Standing.{Stand, none, one}
+use Rattle.wire.specs.Standing.{StandShortest, no-more, short}
 use Rattle.wire.proofs.Lengths.{split}
-use Rattle.wire.proofs.Standing.{stand-last}
+use Rattle.wire.proofs.Standing.{short-last}
 use Rattle.report.specs.Layout.{atMetrics, fixedNumbers}
 use Rattle.report.specs.Limits.{mostMetrics, mostNumbers}
-use Rattle.report.specs.Header.{judge, faultAfter, firstFault, wantedOf}
+use Rattle.report.specs.Header.{judge, judgeField, faultAfter, firstFault, wantedOf}
 use Rattle.report.specs.Reader.{Reading, Whole, Stopped, numbersFrom, readNumbers}
-use Rattle.report.specs.Exactly.{Open, Headed, EndsInside, Faulty}
+use Rattle.report.specs.Exactly.{Open, Headed, EndsInside, Longer, Faulty}
 
 -- ---- how many numbers are wanted
 
@@ -78,11 +78,11 @@ fault-last ns us v e j = fault-append ns us (v ∷ []) e ∙ rw j
 -- ---- reading follows what stands
 
 module _ (s : List ℕ) where
-  pub follow : (vs ns : List ℕ) (n at to : ℕ) → Stand s at vs to → faultAfter ns vs ≡ 0 → length (ns ++ vs) ≤ wantedOf (ns ++ vs)
+  pub follow : (vs ns : List ℕ) (n at to : ℕ) → StandShortest s at vs to → faultAfter ns vs ≡ 0 → length (ns ++ vs) ≤ wantedOf (ns ++ vs)
       → numbersFrom (length vs + n) s at ns ≡ numbersFrom n s to (ns ++ vs)
   unfolding numbersFrom
-  follow [] ns n at to none e h = rw (zero-add, append-nil)
-  follow (v ∷ vs) ns n at to (one {mid = next} r st) e h =
+  follow [] ns n at to no-more e h = rw (zero-add, append-nil)
+  follow (v ∷ vs) ns n at to (short {mid = next} r st) e h =
       let f = fault-first ns v vs e in
       let l : suc (length vs) + n ≡ suc (length vs + n) = omega arith in
       let a : (ns ++ (v ∷ [])) ++ vs ≡ ns ++ (v ∷ vs) = append-assoc ns (v ∷ []) vs in
@@ -102,44 +102,46 @@ wanted-last ns v =
 -- where the reading of numbers can end
 pub data End (s : List ℕ) : Reading → Type 0 where
   inside : EndsInside s → End s (Stopped 2)
+  longer : Longer s → End s (Stopped 15)
   fault : {n : ℕ} → Faulty n s → (n ≡ 0 → ⊥) → End s (Stopped n)
   header : {ns : List ℕ} {at : ℕ} → Headed s ns at → End s (Whole ns at)
 
 module _ (s : List ℕ) where
-  pub ended : (n at : ℕ) (ns : List ℕ) → length ns + n ≡ mostNumbers → Stand s 0 ns at → firstFault ns ≡ 0 → length ns ≤ wantedOf ns → End s (numbersFrom n s at ns)
+  pub ended : (n at : ℕ) (ns : List ℕ) → length ns + n ≡ mostNumbers → StandShortest s 0 ns at → firstFault ns ≡ 0 → length ns ≤ wantedOf ns → End s (numbersFrom n s at ns)
   unfolding numbersFrom
   ended zero at ns l st e h = header (record { stand = st; good = e; whole = omega (arith, wanted-most ns) })
   ended (suc n) at ns l st e h = by (ended n) (leb (wantedOf ns) (length ns)) refl
     where
-      on : ((at : ℕ) (ns : List ℕ) → length ns + n ≡ mostNumbers → Stand s 0 ns at → firstFault ns ≡ 0 → length ns ≤ wantedOf ns → End s (numbersFrom n s at ns))
-          → Open s ns at → (v next : ℕ) → readNumber s at ≡ Value v next → (b : Bool) → eqb (judge ns v) 0 ≡ b
+      on : ((at : ℕ) (ns : List ℕ) → length ns + n ≡ mostNumbers → StandShortest s 0 ns at → firstFault ns ≡ 0 → length ns ≤ wantedOf ns → End s (numbersFrom n s at ns))
+          → Open s ns at → (v next : ℕ) → readNumber s at ≡ Value v next true → (b : Bool) → eqb (judge ns v) 0 ≡ b
           → End s (pick b (numbersFrom n s next (ns ++ (v ∷ []))) (Stopped (judge ns v)))
       on more o v next r true t =
           let k : length (ns ++ (v ∷ [])) ≡ length ns + 1 = length-append ns (v ∷ []) in
-          more next (ns ++ (v ∷ [])) (omega arith) (stand-last st r) (fault-last [] ns v e (eqb-true (judge ns v) 0 t)) (omega (arith, o .more, wanted-last ns v))
+          more next (ns ++ (v ∷ [])) (omega arith) (short-last st r) (fault-last [] ns v e (eqb-true (judge ns v) 0 t)) (omega (arith, o .more, wanted-last ns v))
       on more o v next r false t =
           fault (record { ns = ns; at = at; v = v; next = next; far = o; reads = r; fault = refl }) (eqb-false (judge ns v) 0 t)
 
-      get : ((at : ℕ) (ns : List ℕ) → length ns + n ≡ mostNumbers → Stand s 0 ns at → firstFault ns ≡ 0 → length ns ≤ wantedOf ns → End s (numbersFrom n s at ns))
+      get : ((at : ℕ) (ns : List ℕ) → length ns + n ≡ mostNumbers → StandShortest s 0 ns at → firstFault ns ≡ 0 → length ns ≤ wantedOf ns → End s (numbersFrom n s at ns))
           → Open s ns at → (r : Number) → readNumber s at ≡ r
-          → End s (field r (Stopped 2) (λ v next. pick (eqb (judge ns v) 0) (numbersFrom n s next (ns ++ (v ∷ []))) (Stopped (judge ns v))))
-      get more o (Value v next) r = on more o v next r (eqb (judge ns v) 0) refl
+          → End s (formed r (Stopped 2) (λ v next b. pick (eqb (judgeField ns v b) 0) (numbersFrom n s next (ns ++ (v ∷ []))) (Stopped (judgeField ns v b))))
+      get more o (Value v next true) r = on more o v next r (eqb (judge ns v) 0) refl
+      get more o (Value v next false) r = longer (record { ns = ns; at = at; v = v; next = next; far = o; reads = r })
       get more o Ends r = inside (record { ns = ns; at = at; far = o; ends = r })
 
-      by : ((at : ℕ) (ns : List ℕ) → length ns + n ≡ mostNumbers → Stand s 0 ns at → firstFault ns ≡ 0 → length ns ≤ wantedOf ns → End s (numbersFrom n s at ns))
+      by : ((at : ℕ) (ns : List ℕ) → length ns + n ≡ mostNumbers → StandShortest s 0 ns at → firstFault ns ≡ 0 → length ns ≤ wantedOf ns → End s (numbersFrom n s at ns))
           → (b : Bool) → leb (wantedOf ns) (length ns) ≡ b
-          → End s (pick b (Whole ns at) (field (readNumber s at) (Stopped 2) (λ v next. pick (eqb (judge ns v) 0) (numbersFrom n s next (ns ++ (v ∷ []))) (Stopped (judge ns v)))))
+          → End s (pick b (Whole ns at) (formed (readNumber s at) (Stopped 2) (λ v next c. pick (eqb (judgeField ns v c) 0) (numbersFrom n s next (ns ++ (v ∷ []))) (Stopped (judgeField ns v c)))))
       by more true t = header (record { stand = st; good = e; whole = omega (arith, leb-true (wantedOf ns) (length ns) t) })
       by more false t = get more (record { stand = st; good = e; more = leb-false (wantedOf ns) (length ns) t }) (readNumber s at) refl
 
 pub numbers-end : (s : List ℕ) → End s (readNumbers s)
 unfolding faultAfter
-numbers-end s = ended s mostNumbers 0 [] refl none refl zero-le
+numbers-end s = ended s mostNumbers 0 [] refl no-more refl zero-le
 
 -- ---- the other direction: each end is the one that the reading comes to
 
 module _ (s ns : List ℕ) (at : ℕ) where
-  reach : Stand s 0 ns at → firstFault ns ≡ 0 → length ns ≤ wantedOf ns → (n : ℕ) → length ns + n ≡ mostNumbers → readNumbers s ≡ numbersFrom n s at ns
+  reach : StandShortest s 0 ns at → firstFault ns ≡ 0 → length ns ≤ wantedOf ns → (n : ℕ) → length ns + n ≡ mostNumbers → readNumbers s ≡ numbersFrom n s at ns
   reach st e h n l = ap (λ (m : ℕ). numbersFrom m s 0 []) (sym l) ∙ follow s ns [] n 0 at st e h
 
   stops : (n : ℕ) → wantedOf ns ≤ length ns → numbersFrom n s at ns ≡ Whole ns at
@@ -160,6 +162,10 @@ module _ (s ns : List ℕ) (at : ℕ) where
   unfolding numbersFrom
   open-ends o r = goes o ∙ rw (lt-leb (wantedOf ns) (length ns) (o .more), r)
 
-  pub open-fault : Open s ns at → (v next n : ℕ) → readNumber s at ≡ Value v next → judge ns v ≡ n → (n ≡ 0 → ⊥) → readNumbers s ≡ Stopped n
+  pub open-longer : Open s ns at → (v next : ℕ) → readNumber s at ≡ Value v next false → readNumbers s ≡ Stopped 15
+  unfolding numbersFrom
+  open-longer o v next r = goes o ∙ rw (lt-leb (wantedOf ns) (length ns) (o .more), r)
+
+  pub open-fault : Open s ns at → (v next n : ℕ) → readNumber s at ≡ Value v next true → judge ns v ≡ n → (n ≡ 0 → ⊥) → readNumbers s ≡ Stopped n
   unfolding numbersFrom
   open-fault o v next n r j z = goes o ∙ rw (lt-leb (wantedOf ns) (length ns) (o .more), r, j, ne-eqb n 0 z)

@@ -1,4 +1,4 @@
--- An accepted report in shortest form is what the writer writes from its header and its entries: its numbers are the header's again.
+-- An accepted report is what the writer writes from its header and its entries: its numbers are the header's again, in their shortest forms.
 -- Assumes nothing.
 use Prim.Native.Nat.{ℕ, zero, suc, _+_, _-_, _*_, _/_, _≤_, _<_}
 use mathlib.Core.Path.{_≡_, refl, sym, ap, _∙_, subst}
@@ -13,7 +13,7 @@ use Rattle.wire.specs.Bytes.{Octets}
 use Rattle.wire.specs.Numbers.{widthOf, encodeAll, allSmall}
 use Rattle.wire.proofs.Lengths.{width-pos}
 use Rattle.wire.proofs.Small.{all-small, small-append}
-use Rattle.wire.proofs.Standing.{stand-small, stand-shortest}
+use Rattle.wire.proofs.Standing.{short-stands, stand-small, short-long, short-bytes}
 use Rattle.entries.specs.Limits.{recordSize, mostEntries}
 use Rattle.entries.specs.Entries.{entriesFault}
 use Rattle.entries.specs.Fitting.{fittingOf}
@@ -22,15 +22,17 @@ use Rattle.entries.proofs.Largest.{records-fit}
 use Rattle.report.specs.Layout.{atMetrics, fixedNumbers, atType, atValue}
 use Rattle.report.specs.Limits.{mostMetrics}
 use Rattle.report.specs.Header.{firstFault, wantedOf, countOf, each, metricAt, headerOf, pairs, numbersOf}
-use Rattle.report.specs.Reader.{Whole, partOf, reportReading, entriesIn, entriesOf}
+use Rattle.report.specs.Reader.{Reading, Whole, partOf, reportReading, reportOf, readReport, entriesIn, entriesOf}
 use Rattle.report.specs.Writer.{reportSize, writeAnswer, writeBytes}
-use Rattle.report.specs.Exactly.{Headed}
-use Rattle.report.specs.EachWay.{ReadWrite}
+use Rattle.report.specs.Exactly.{Headed, Sound}
+use Rattle.report.specs.EachWay.{WritesBack, ReadWrite, EqualBytes}
+use Rattle.report.specs.declared.Header.{Header}
 use Rattle.report.specs.declared.Written.the-variants.{Done}
 use Rattle.report.proofs.Signed.{stored-average}
 use Rattle.report.proofs.Whole.{Judged, judged-whole}
 use Rattle.report.proofs.Planning.{length-last, plan-done}
 use Rattle.report.proofs.Following.{End, header, numbers-end, fault-at, fault-start}
+use Rattle.report.proofs.Exactly.{report-reads, sound-judged}
 use Rattle.report.proofs.Places.{metrics-small, entries-small}
 use Rattle.report.proofs.Back.{report-part}
 
@@ -126,7 +128,7 @@ headed s ns at (header h) = h
 antisym : (a b : ℕ) → a ≤ b → b ≤ a → a ≡ b
 antisym a b h l = omega arith
 
-module _ (s ns xs : List ℕ) (at : ℕ) (o : Octets s) (w : Whole ns at ≡ reportReading s) (z : at ≡ length (encodeAll ns)) (r : length s ≤ length xs) where
+module _ (s ns xs : List ℕ) (at : ℕ) (o : Octets s) (w : Whole ns at ≡ reportReading s) (r : length s ≤ length xs) where
   j : Judged s ns at
   j = judged-whole s ns at w
 
@@ -134,7 +136,7 @@ module _ (s ns xs : List ℕ) (at : ℕ) (o : Octets s) (w : Whole ns at ≡ rep
   h = headed s ns at (subst (End s) (j .numbers) (numbers-end s))
 
   t : take at s ≡ encodeAll ns
-  t = rw (← z) at (stand-shortest s o (h .stand) (z ∙ sym (zero-add (length (encodeAll ns)))))
+  t = let z : at ≡ length (encodeAll ns) = short-long s o (h .stand) ∙ zero-add (length (encodeAll ns)) in rw (← z) at (short-bytes s o (h .stand))
 
   abbrev k : ℕ
   k = countOf ns
@@ -161,7 +163,7 @@ module _ (s ns xs : List ℕ) (at : ℕ) (o : Octets s) (w : Whole ns at ≡ rep
       (record { even = omega (arith, entries-long); few = omega (arith, entries-long, k-few); good = rw entries-are (j .good) })
 
   front-small : allSmall front ≡ true
-  front-small = all-small front .1 (small-append front (k ∷ []) .0 (rw again (stand-small s o (h .stand))) .0)
+  front-small = all-small front .1 (small-append front (k ∷ []) .0 (rw again (stand-small s o (short-stands (h .stand)))) .0)
 
   front-good : firstFault front ≡ 0
   front-good = fault-start [] front (k ∷ []) (rw again (h .good))
@@ -199,5 +201,45 @@ module _ (s ns xs : List ℕ) (at : ℕ) (o : Octets s) (w : Whole ns at ≡ rep
       report-part (headerOf ns) (entriesOf s) xs (length s) k answer
       ∙ rw (again, ← t, z, entries-are, e) (take-append-drop at s)
 
+-- ---- by what the reader answers
+
+module _ (s : List ℕ) (o : Octets s) (e : readReport s .refusal ≡ 0) where
+  x : Sound s
+  x = report-reads s .accepted .0 e
+
+  whole : Whole (x .ns) (x .at) ≡ reportReading s
+  whole = sym (sound-judged s x)
+
+  header-read : readReport s .header ≡ headerOf (x .ns)
+  unfolding reportOf
+  header-read = ap (λ (r : Reading). reportOf r .header) (sym whole)
+
+  -- the writer's answer and bytes are about the header that was read
+  writes-back : (xs : List ℕ) → length s ≤ length xs → WritesBack s xs
+  unfolding headerOf
+  writes-back xs r = record {
+    answer = subst (λ (h : Header). Done (length s) (h .entries) ≡ writeAnswer h (entriesOf s) (length xs)) (sym header-read) (answer s (x .ns) xs (x .at) o whole r);
+    bytes = subst (λ (h : Header). take (length s) (writeBytes h (entriesOf s) xs) ≡ s) (sym header-read) (bytes s (x .ns) xs (x .at) o whole r);
+  }
+
 pub read-write : ReadWrite
-read-write s ns xs at o w z r = record { answer = answer s ns xs at o w z r; bytes = bytes s ns xs at o w z r }
+read-write s xs o e r = writes-back s o e xs r
+
+-- both reports are what the writer writes into the same room from the same header and entries
+pub equal-bytes : EqualBytes
+equal-bytes s t o q same = sym (a .bytes) ∙ rw (long, same .headers, same .entries) (b .bytes)
+  where
+    xs : List ℕ
+    xs = s ++ t
+
+    a : WritesBack s xs
+    a = read-write s xs o (same .accepted .0) (rw length-append (omega arith))
+
+    b : WritesBack t xs
+    b = read-write t xs q (same .accepted .1) (rw length-append (omega arith))
+
+    same-answer : Done (length s) (readReport s .header .entries) ≡ Done (length t) (readReport t .header .entries)
+    same-answer = a .answer ∙ rw (same .headers, same .entries) (sym (b .answer))
+
+    long : length s ≡ length t
+    long = let f = same-answer in cc

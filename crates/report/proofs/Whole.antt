@@ -11,12 +11,12 @@ use lib.Dec.{leb, eqb}
 use lib.ListN.{length, take, drop, set}
 use lib.Seq.{take-suc-set, length-take-le}
 use Rattle.wire.specs.Bytes.{pick}
-use Rattle.wire.specs.Fields.{field}
+use Rattle.wire.specs.Fields.{formed}
 use Rattle.wire.specs.Numbers.{readNumber}
 use Rattle.wire.specs.declared.Number.the-variants.{Value, Ends}
 use Rattle.entries.specs.Limits.{recordSize}
 use Rattle.report.specs.Limits.{mostNumbers}
-use Rattle.report.specs.Header.{judge, wantedOf, countOf, headerOf, emptyHeader}
+use Rattle.report.specs.Header.{judgeField, wantedOf, countOf, headerOf, emptyHeader}
 use Rattle.entries.specs.Entries.{entriesGood}
 use Rattle.report.specs.Reader.{Reading, Whole, Stopped, numbersFrom, readNumbers, partOf, judgeEntries, reportReading, reportOf, readReport, entriesIn, entriesOf, readingOf}
 use Rattle.report.specs.declared.NumbersRead.{NumbersRead}
@@ -29,28 +29,28 @@ module _ (s numbers : List ℕ) (at count : ℕ) (R : Reading) (h : count < most
   so-far = length-take-le count numbers (omega arith)
 
   opened : pick (leb (wantedOf (take count numbers)) count) (Whole (take count numbers) at)
-      (field (readNumber s at) (Stopped 2) (λ v next.
-      pick (eqb (judge (take count numbers) v) 0) (numbersFrom (mostNumbers - (count + 1)) s next (take count numbers ++ (v ∷ []))) (Stopped (judge (take count numbers) v)))) ≡ R
+      (formed (readNumber s at) (Stopped 2) (λ v next b.
+      pick (eqb (judgeField (take count numbers) v b) 0) (numbersFrom (mostNumbers - (count + 1)) s next (take count numbers ++ (v ∷ []))) (Stopped (judgeField (take count numbers) v b)))) ≡ R
   unfolding numbersFrom
   opened = let e : mostNumbers - count ≡ suc (mostNumbers - (count + 1)) = omega arith in rw (e, so-far) at inv
 
   pub whole-now : wantedOf (take count numbers) ≤ count → Whole (take count numbers) at ≡ R
   whole-now w = rw (le-leb (wantedOf (take count numbers)) count w) at opened
 
-  going : count < wantedOf (take count numbers) → field (readNumber s at) (Stopped 2) (λ v next.
-      pick (eqb (judge (take count numbers) v) 0) (numbersFrom (mostNumbers - (count + 1)) s next (take count numbers ++ (v ∷ []))) (Stopped (judge (take count numbers) v))) ≡ R
+  going : count < wantedOf (take count numbers) → formed (readNumber s at) (Stopped 2) (λ v next b.
+      pick (eqb (judgeField (take count numbers) v b) 0) (numbersFrom (mostNumbers - (count + 1)) s next (take count numbers ++ (v ∷ []))) (Stopped (judgeField (take count numbers) v b))) ≡ R
   going w = rw (lt-leb (wantedOf (take count numbers)) count w) at opened
 
   pub ends-now : count < wantedOf (take count numbers) → readNumber s at ≡ Ends → Stopped 2 ≡ R
   ends-now w e = rw e at (going w)
 
-  module _ (v next r : ℕ) (w : count < wantedOf (take count numbers)) (e : readNumber s at ≡ Value v next) (j : r ≡ judge (take count numbers) v) where
+  module _ (v next r : ℕ) (b : Bool) (w : count < wantedOf (take count numbers)) (e : readNumber s at ≡ Value v next b) (j : r ≡ judgeField (take count numbers) v b) where
     pub refused-now : (r ≡ 0 → ⊥) → Stopped r ≡ R
-    refused-now n = ap Stopped j ∙ (rw (e, ne-eqb (judge (take count numbers) v) 0 (λ z. n (j ∙ z))) at (going w))
+    refused-now n = ap Stopped j ∙ (rw (e, ne-eqb (judgeField (take count numbers) v b) 0 (λ z. n (j ∙ z))) at (going w))
 
     pub more-now : r ≡ 0 → numbersFrom (mostNumbers - (count + 1)) s next (take (count + 1) (set numbers count v)) ≡ R
     more-now z =
-        let g : numbersFrom (mostNumbers - (count + 1)) s next (take count numbers ++ (v ∷ [])) ≡ R = rw (e, eq-eqb (judge (take count numbers) v) 0 (sym j ∙ z)) at (going w) in
+        let g : numbersFrom (mostNumbers - (count + 1)) s next (take count numbers ++ (v ∷ [])) ≡ R = rw (e, eq-eqb (judgeField (take count numbers) v b) 0 (sym j ∙ z)) at (going w) in
         ap (numbersFrom (mostNumbers - (count + 1)) s next) (ap (λ (n : ℕ). take n (set numbers count v)) (add-one count) ∙ take-suc-set numbers count v (omega arith)) ∙ g
 
 pub full-now : (s numbers : List ℕ) (at count : ℕ) (R : Reading) → mostNumbers ≤ count → numbersFrom (mostNumbers - count) s at (take count numbers) ≡ R → Whole (take count numbers) at ≡ R

@@ -1,17 +1,17 @@
--- Each way: what the writer wrote the reader reads back, and what the reader accepts in shortest form the writer writes.
+-- Each way: what the writer wrote the reader reads back, what the reader accepts the writer writes, and so equal reports have equal bytes.
 use Prim.Native.Nat.{ℕ, _*_, _≤_, _<_}
 use mathlib.Core.Path.{_≡_}
 use mathlib.Core.List.{List, []}
 use lib.Dec.{ltb}
 use lib.ListN.{length, getD, take, drop}
-use Rattle.wire.specs.Bytes.{pick}
+use Rattle.wire.specs.Bytes.{pick, Octets}
 use Rattle.wire.specs.Numbers.{encodeAll}
 use Rattle.entries.specs.Limits.{recordSize, mostEntries}
 use Rattle.entries.specs.Fitting.{lastOf}
 use Rattle.entries.specs.Exactly.{Obeys}
 use Rattle.report.specs.Limits.{mostMetrics}
-use Rattle.report.specs.Header.{each, countOf, headerOf, numbersOf}
-use Rattle.report.specs.Reader.{Whole, reportReading, readReport, entriesOf}
+use Rattle.report.specs.Header.{each, numbersOf}
+use Rattle.report.specs.Reader.{readReport, entriesOf}
 use Rattle.report.specs.Writer.{reportSize, writeAnswer, writeBytes}
 use Rattle.report.specs.declared.Header.{Header}
 use Rattle.report.specs.declared.Written.the-variants.{Done}
@@ -53,13 +53,22 @@ abbrev pub WriteKeeps : Type 0
 WriteKeeps = (h : Header) (entries xs : List ℕ) (next kept : ℕ) → Done next kept ≡ writeAnswer h entries (length xs) → Keeps h entries xs next kept
 
 -- an accepted report, written from its header and its entries into a room that holds it
-pub record WritesBack (s ns xs : List ℕ) : Type 0 where
-  pub answer : Done (length s) (countOf ns) ≡ writeAnswer (headerOf ns) (entriesOf s) (length xs)
-  pub bytes : take (length s) (writeBytes (headerOf ns) (entriesOf s) xs) ≡ s
+pub record WritesBack (s xs : List ℕ) : Type 0 where
+  pub answer : Done (length s) (readReport s .header .entries) ≡ writeAnswer (readReport s .header) (entriesOf s) (length xs)
+  pub bytes : take (length s) (writeBytes (readReport s .header) (entriesOf s) xs) ≡ s
 
--- its elements are bytes, and its numbers are in shortest form: they take no more bytes than the shortest forms
+-- what the reader accepts, of bytes, is what the writer writes
 abbrev pub ReadWrite : Type 0
-ReadWrite = (s ns xs : List ℕ) (at : ℕ) → ((i : ℕ) → getD s i 0 < 256) → Whole ns at ≡ reportReading s → at ≡ length (encodeAll ns) → length s ≤ length xs → WritesBack s ns xs
+ReadWrite = (s xs : List ℕ) → Octets s → readReport s .refusal ≡ 0 → length s ≤ length xs → WritesBack s xs
+
+-- "From then on equal reports have equal bytes" (02, No. 5): equal headers and equal entries
+pub record SameReport (s t : List ℕ) : Type 0 where
+  pub accepted : (readReport s .refusal ≡ 0) × (readReport t .refusal ≡ 0)
+  pub headers : readReport s .header ≡ readReport t .header
+  pub entries : entriesOf s ≡ entriesOf t
+
+abbrev pub EqualBytes : Type 0
+EqualBytes = (s t : List ℕ) → Octets s → Octets t → SameReport s t → s ≡ t
 
 -- reader and companion agree: both refuse together, and of an accepted report the part holds as many records as the header says, each of them good
 pub record Agree (s : List ℕ) : Type 0 where

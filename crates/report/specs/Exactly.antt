@@ -6,7 +6,7 @@ use mathlib.Core.Bool.{true, false}
 use mathlib.Core.List.{List, [], _∷_}
 use lib.ListN.{length, getD}
 use Rattle.wire.specs.Numbers.{readNumber, encodeAll}
-use Rattle.wire.specs.Standing.{Stand}
+use Rattle.wire.specs.Standing.{StandShortest}
 use Rattle.wire.specs.Exactly.{OneOf, Small}
 use Rattle.wire.specs.declared.Number.the-variants.{Value, Ends}
 use Rattle.entries.specs.Limits.{recordSize, mostEntries}
@@ -22,15 +22,15 @@ use Rattle.report.specs.declared.Header.{Header}
 
 -- ---- the reader
 
--- the numbers ns were read, none brought a refusal, and more are wanted
+-- the numbers ns were read in their shortest forms, none brought a refusal, and more are wanted
 pub record Open (s ns : List ℕ) (at : ℕ) : Type 0 where
-  pub stand : Stand s 0 ns at
+  pub stand : StandShortest s 0 ns at
   pub good : firstFault ns ≡ 0
   pub more : length ns < wantedOf ns
 
--- the numbers ns are a whole header: they were read, none brought a refusal, and they are as many as are wanted
+-- the numbers ns are a whole header: they were read so, none brought a refusal, and they are as many as are wanted
 pub record Headed (s ns : List ℕ) (at : ℕ) : Type 0 where
-  pub stand : Stand s 0 ns at
+  pub stand : StandShortest s 0 ns at
   pub good : firstFault ns ≡ 0
   pub whole : length ns ≡ wantedOf ns
 
@@ -41,14 +41,23 @@ pub record EndsInside (s : List ℕ) : Type 0 where
   pub far : Open s ns at
   pub ends : readNumber s at ≡ Ends
 
--- a number that was read breaks the rule of its place
+-- 15: a number stands whole, and in a longer form than it need, whatever its value
+pub record Longer (s : List ℕ) : Type 0 where
+  pub ns : List ℕ
+  pub at : ℕ
+  pub v : ℕ
+  pub next : ℕ
+  pub far : Open s ns at
+  pub reads : readNumber s at ≡ Value v next false
+
+-- a number that was read in its shortest form breaks the rule of its place
 pub record Faulty (n : ℕ) (s : List ℕ) : Type 0 where
   pub ns : List ℕ
   pub at : ℕ
   pub v : ℕ
   pub next : ℕ
   pub far : Open s ns at
-  pub reads : readNumber s at ≡ Value v next
+  pub reads : readNumber s at ≡ Value v next true
   pub fault : judge ns v ≡ n
 
 -- too few bytes remain for the entries
@@ -88,8 +97,9 @@ pub record ReaderRows (s : List ℕ) (refusal : ℕ) : Type 0 where
   pub eleven : refusal ≡ 11 ↔ Faulty 11 s
   pub twelve : refusal ≡ 12 ↔ BadEntry s
   pub thirteen : refusal ≡ 13 ↔ Behind s
+  pub fifteen : refusal ≡ 15 ↔ Longer s
   pub accepted : refusal ≡ 0 ↔ Sound s
-  pub others : OneOf refusal (0 ∷ 2 ∷ 10 ∷ 11 ∷ 12 ∷ 13 ∷ [])
+  pub others : OneOf refusal (0 ∷ 2 ∷ 10 ∷ 11 ∷ 12 ∷ 13 ∷ 15 ∷ [])
 
 abbrev pub ReportReads : Type 0
 ReportReads = (s : List ℕ) → ReaderRows s (readReport s .refusal)

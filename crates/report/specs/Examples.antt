@@ -1,4 +1,4 @@
--- The settled examples P9 and P10, on the definitions.
+-- The settled examples P9 and P10, and longer forms at a field with another fault or none (02, No. 5), on the definitions.
 use Prim.Native.Nat.{ℕ}
 use mathlib.Core.Path.{_≡_}
 use mathlib.Core.List.{List, [], _∷_, _++_}
@@ -45,3 +45,25 @@ pub record Examples : Type 0 where
   pub P10-none : (writeAnswer (sample 0) three 15 ≡ Done 15 0) × (writeBytes (sample 0) three (replicate 15 0) ≡ head ++ (0x00 ∷ []))
   pub P10-refused : (writeAnswer (sample 0) three 14 ≡ Refused 9) × (writeBytes (sample 0) three (replicate 14 0) ≡ replicate 14 0)
   pub P10-read : (readReport (head ++ (0x03 ∷ three)) ≡ record { refusal = 0; header = sample 3 }) × (entriesOf (head ++ (0x03 ∷ three)) ≡ three)
+
+-- what the reader answers
+abbrev pub refusal : List ℕ → ℕ
+refusal s = readReport s .refusal
+
+-- as many zeros, and then these bytes
+abbrev pub zeros : ℕ → List ℕ → List ℕ
+zeros n s = replicate n 0 ++ s
+
+pub record LongerForms : Type 0 where
+  pub first : refusal (0x40 ∷ zeros 9 []) ≡ 15
+  pub four-bytes : refusal (0x80 ∷ zeros 11 []) ≡ 15
+  pub eight-bytes : refusal (0xc0 ∷ zeros 15 []) ≡ 15
+  pub cut : refusal (zeros 2 (0x80 ∷ 0x00 ∷ [])) ≡ 2
+  pub lost-before-sum : refusal (zeros 5 (0x40 ∷ 0x01 ∷ [])) ≡ 15
+  pub sum-before-average : refusal (zeros 5 (0x01 ∷ 0x40 ∷ 0x00 ∷ [])) ≡ 11
+  pub count-before-ten : refusal (zeros 7 (0x40 ∷ 0x05 ∷ [])) ≡ 15
+  pub type-before-ten : refusal (zeros 7 (0x01 ∷ 0x40 ∷ 0x03 ∷ [])) ≡ 15
+  pub value : refusal (zeros 7 (0x01 ∷ 0x02 ∷ 0x40 ∷ 0x00 ∷ 0x00 ∷ [])) ≡ 15
+  pub last : refusal (zeros 8 (0x40 ∷ 0x00 ∷ [])) ≡ 15
+  pub last-before-ten : refusal (zeros 8 (0x40 ∷ 0x33 ∷ [])) ≡ 15
+  pub shortest : refusal (zeros 9 []) ≡ 0

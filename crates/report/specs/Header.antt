@@ -41,6 +41,10 @@ judge ns v =
     (pick (eqb (length ns % 2) 1) 0
     (judgeLater ns v))))
 
+-- what a field brings to a reader: "15, given at the field, before 10 and 11" (02, No. 5), then what its number does
+abbrev pub judgeField : List ℕ → ℕ → Bool → ℕ
+judgeField ns v shortest = pick shortest (judge ns v) 15
+
 -- the first refusal of the numbers vs that follow ns
 unfoldable pub faultAfter : List ℕ → List ℕ → ℕ
 faultAfter ns [] = 0

@@ -4,11 +4,11 @@ use mathlib.Core.List.{List, [], _∷_, _++_}
 use lib.Dec.{eqb, leb}
 use lib.ListN.{length, take, drop}
 use Rattle.wire.specs.Bytes.{pick}
-use Rattle.wire.specs.Fields.{field}
+use Rattle.wire.specs.Fields.{formed}
 use Rattle.wire.specs.Numbers.{readNumber}
 use Rattle.entries.specs.Limits.{recordSize}
 use Rattle.report.specs.Limits.{mostNumbers}
-use Rattle.report.specs.Header.{judge, wantedOf, countOf, headerOf, emptyHeader}
+use Rattle.report.specs.Header.{judgeField, wantedOf, countOf, headerOf, emptyHeader}
 use Rattle.entries.specs.Entries.{entriesGood}
 use Rattle.report.specs.declared.NumbersRead.{NumbersRead}
 use Rattle.report.specs.declared.Report.{Report}
@@ -18,13 +18,13 @@ pub data Reading : Type 0 where
   Whole : List ℕ → ℕ → Reading
   Stopped : ℕ → Reading
 
--- one number more, up to n, and each judged as soon as it is read
+-- one number more, up to n, and each judged as soon as it is read; "Report readers refuse a longer form" (02, No. 5)
 unfoldable pub numbersFrom : ℕ → List ℕ → ℕ → List ℕ → Reading
 numbersFrom zero s at ns = Whole ns at
 numbersFrom (suc n) s at ns =
     pick (leb (wantedOf ns) (length ns)) (Whole ns at)
-    (field (readNumber s at) (Stopped 2) (λ v next.
-    pick (eqb (judge ns v) 0) (numbersFrom n s next (ns ++ (v ∷ []))) (Stopped (judge ns v))))
+    (formed (readNumber s at) (Stopped 2) (λ v next shortest.
+    pick (eqb (judgeField ns v shortest) 0) (numbersFrom n s next (ns ++ (v ∷ []))) (Stopped (judgeField ns v shortest))))
 
 abbrev pub readNumbers : List ℕ → Reading
 readNumbers s = numbersFrom mostNumbers s 0 []

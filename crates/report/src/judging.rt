@@ -1,11 +1,11 @@
-// What each number of a header brings: the step that reader and writer both go by.
+// What each number of a header brings: the step that reader and writer both go by, and 15, which only a reader can give.
 ghost use mathlib.Core.Path.{_≡_};
 ghost use Prim.Native.Nat.{_+_, _≤_, min};
 ghost use lib.Dec.{eqb};
 ghost use lib.ListN.{length, getD};
 ghost use Rattle.report.specs.Layout.{fixedNumbers};
 ghost use Rattle.report.specs.Limits.{mostMetrics};
-ghost use Rattle.report.specs.Header.{knownType, judge, judgeLater, firstFault, wantedOf, countOf};
+ghost use Rattle.report.specs.Header.{knownType, judge, judgeField, judgeLater, firstFault, wantedOf, countOf};
 use crate::MOST_METRICS;
 use crate::layout::AT_LATE;
 use crate::layout::AT_LOST;
@@ -39,8 +39,18 @@ fn adds_up(total: u64, received: u64, late: u64, lost: u64) -> bool
     rest - late == lost
 }
 
-// The refusal that v brings where it comes after the numbers so far, 0 for none: one step of the reader and of the writer.
-pub(crate) fn judge_next(numbers: &[u64], v: u64) -> u64
+// What a field brings, 0 for no refusal: 15 for a longer form, then what its number does. It is one step of the reader.
+pub(crate) fn judge_field(numbers: &[u64], v: u64, shortest: bool) -> u64
+    ensures { λ r. ⌜ r ≡ judgeField (now (numbers .entry)) v shortest ⌝ }
+{
+    if !shortest {
+        return 15;
+    }
+    judge_next(numbers, v)
+}
+
+// The refusal that v brings where it comes after the numbers so far, 0 for none: one step of the writer, and the reader's for a shortest form.
+fn judge_next(numbers: &[u64], v: u64) -> u64
     ensures { λ r. ⌜ r ≡ judge (now (numbers .entry)) v ⌝ }
 {
     let n = numbers.len();

@@ -9,7 +9,7 @@ use crate::NumbersRead;
 use crate::Report;
 use crate::headers::empty_header;
 use crate::headers::header_of;
-use crate::judging::judge_next;
+use crate::judging::judge_field;
 use crate::judging::last_of;
 use crate::judging::wanted;
 use entries::RECORD;
@@ -33,10 +33,15 @@ fn read_numbers(s: &[u8]) -> NumbersRead
                 numbers,
             };
         }
-        let Number::Value { value, next } = wire::read_number(s, at) else {
+        let Number::Value {
+            value,
+            next,
+            shortest,
+        } = wire::read_number(s, at)
+        else {
             return stopped(2);
         };
-        let refusal = judge_next(&numbers[..count], value);
+        let refusal = judge_field(&numbers[..count], value, shortest);
         if refusal != 0 {
             return stopped(refusal);
         }

@@ -25,13 +25,13 @@ pub fn read_number(s: &[u8]) {
 fn read_fixed4(s: &[u8]) {
     show::text(b"read_fixed4");
     show::bytes(s);
-    show::number(wire::read_fixed4(s, 0));
+    show::fixed(wire::read_fixed4(s, 0));
 }
 
 fn read_fixed8(s: &[u8]) {
     show::text(b"read_fixed8");
     show::bytes(s);
-    show::number(wire::read_fixed8(s, 0));
+    show::fixed(wire::read_fixed8(s, 0));
 }
 
 pub fn read_frequency(s: &[u8]) {

@@ -4,6 +4,7 @@ use frames::Frequency;
 use frames::Immediate;
 use receiver::Agreed;
 use receiver::Verdict;
+use wire::Fixed;
 use wire::Number;
 use wire::Put;
 
@@ -47,12 +48,33 @@ pub fn numbers(s: &[u64]) {
     }
 }
 
-// What a reader of numbers answers.
+// A value that was read, and how many bytes it took.
+fn value_found(value: u64, length: usize) {
+    count(b": value ", value);
+    count(b", length ", length as u64);
+}
+
+// What a reader of fixed fields answers.
+pub fn fixed(answer: Fixed) {
+    match answer {
+        Fixed::Value { value, next } => value_found(value, next),
+        Fixed::Ends => count(b": refused ", answer.refusal()),
+    }
+    text(b"\n");
+}
+
+// What the reader of numbers answers.
 pub fn number(answer: Number) {
     match answer {
-        Number::Value { value, next } => {
-            count(b": value ", value);
-            count(b", length ", next as u64);
+        Number::Value {
+            value,
+            next,
+            shortest,
+        } => {
+            value_found(value, next);
+            if !shortest {
+                text(b", not the shortest form");
+            }
         }
         Number::Ends => count(b": refused ", answer.refusal()),
     }

@@ -12,7 +12,7 @@ use lib.ListN.{length, getD}
 use Rattle.wire.specs.Bytes.{pick}
 use Rattle.wire.specs.Fields.{readFixed, placed, after}
 use Rattle.wire.specs.Numbers.{lenOf, encodeAll, allSmall, readForm, readNumber, lengthOf, putAnswer, putBytes}
-use Rattle.wire.specs.Refusals.{numberRefusal, putRefusal, lengthRefusal}
+use Rattle.wire.specs.Refusals.{numberRefusal, fixedRefusal, putRefusal, lengthRefusal}
 use Rattle.wire.specs.Exactly.{OneOf, Small, Reads, FixedReads, NumberReads, Writes, NumbersWrite, Places, BytesWrite, Measures, NumbersMeasured, NumbersUnchanged, BytesUnchanged}
 use Rattle.wire.specs.declared.Put.{Put}
 use Rattle.wire.specs.declared.Put.the-variants.{Done, TooLarge, NoRoom}

@@ -6,12 +6,12 @@ use mathlib.Core.Bool.{true, false}
 use native.Mathlib.Nat.{le-of-suc-le-suc, mul-le-mul-left, lt-of-not-le, pow-le-pow-right, one-le-pow}
 use native.Mathlib.Decide.{decLe}
 use native.Mathlib.Omega.{arith}
-use borrow.Author.Tests.{le-leb, lt-leb, lt-ltb, le-ltb}
-use lib.Dec.{leb, lit<}
+use borrow.Author.Tests.{le-leb, lt-leb, lt-ltb, le-ltb, eq-eqb, ne-eqb}
+use lib.Dec.{leb, ltb, lit<}
 use lib.Pow.{pow-pos}
 use lib.Arith.{lt-of-le-ne}
 use Rattle.wire.specs.Bytes.{pick}
-use Rattle.wire.specs.Numbers.{lenOf, roomOf, largestOf, limit, firstFrom, codeOf, widthOf}
+use Rattle.wire.specs.Numbers.{lenOf, roomOf, largestOf, limit, firstFrom, codeOf, widthOf, isShortest}
 
 pub len-le : (k : ℕ) → k < 4 → lenOf k ≤ 8
 len-le k h = pow-le-pow-right {n = 2} (lit< tt) (le-of-suc-le-suc h)
@@ -21,6 +21,10 @@ room-le k h = mul-le-mul-left 64 (pow-le-pow-right {n = 256} (lit< tt) {j = 7} (
 
 pub room-pos : (k : ℕ) → 0 < roomOf k
 room-pos k = omega (arith, one-le-pow (2 ^ k - 1) 256 (lit< tt))
+
+-- a longer form holds no fewer
+pub room-mono : (i j : ℕ) → i ≤ j → roomOf i ≤ roomOf j
+room-mono i j h = mul-le-mul-left 64 (pow-le-pow-right {n = 256} (lit< tt) {j = lenOf j - 1} (omega (arith, pow-le-pow-right {n = 2} (lit< tt) h)))
 
 -- the largest number and one more
 pub room-of : (k big : ℕ) → big ≡ largestOf k → big + 1 ≡ roomOf k
@@ -52,6 +56,19 @@ code-fits v h = omega (arith, first-fits 4 0 v h, room-pos (codeOf v))
 
 pub code-least : (v j : ℕ) → j < 4 → v ≤ largestOf j → codeOf v ≤ j
 code-least v j p h = first-least 4 0 v j zero-le p h
+
+-- a form is the shortest where the next shorter one does not hold the number
+pub shortest-code : (k v : ℕ) → 0 < k → k < 4 → v < roomOf k → ltb (largestOf (k - 1)) v ≡ isShortest k v
+shortest-code k v p h l =
+    let least : codeOf v ≤ k = code-least v k h (omega arith) in
+    split v (largestOf (k - 1))
+    (λ s. le-ltb (largestOf (k - 1)) v s ∙ sym (ne-eqb (codeOf v) k (λ e. omega (arith, code-least v (k - 1) (omega arith) s))))
+    (λ s. lt-ltb (largestOf (k - 1)) v s
+    ∙ sym (eq-eqb (codeOf v) k (split k (codeOf v) (λ q. omega arith) (λ q. omega (arith, code-fits v (omega arith), room-mono (codeOf v) (k - 1) (omega arith))))))
+
+-- the form of one byte always is
+pub shortest-one : (v : ℕ) → v ≤ largestOf 0 → true ≡ isShortest 0 v
+shortest-one v h = sym (eq-eqb (codeOf v) 0 (omega (arith, code-least v 0 (lit< tt) h)))
 
 -- a code was found exactly where the number is not above the limit
 pub code-large : (v : ℕ) → 4 ≤ codeOf v → limit < v

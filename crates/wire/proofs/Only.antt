@@ -21,6 +21,8 @@ use Rattle.wire.proofs.several.length_of.Reads as length-of
 use Rattle.wire.proofs.several.length_of.Kinds as length-of-kinds
 use Rattle.wire.proofs.Number.refusal.Reads as number-refusal
 use Rattle.wire.proofs.Number.refusal.Kinds as number-refusal-kinds
+use Rattle.wire.proofs.Fixed.refusal.Reads as fixed-refusal
+use Rattle.wire.proofs.Fixed.refusal.Kinds as fixed-refusal-kinds
 use Rattle.wire.proofs.Put.refusal.Reads as put-refusal
 use Rattle.wire.proofs.Put.refusal.Kinds as put-refusal-kinds
 use Rattle.wire.proofs.Length.refusal.Reads as length-refusal
@@ -71,6 +73,9 @@ length-of-one κs given x y s t p q = p ∙ sym q
 
 pub number-refusal-one : OneAnswer 0 number-refusal-kinds.ps number-refusal-kinds.r number-refusal.Post
 number-refusal-one κs given x y s t p q = p ∙ sym q
+
+pub fixed-refusal-one : OneAnswer 0 fixed-refusal-kinds.ps fixed-refusal-kinds.r fixed-refusal.Post
+fixed-refusal-one κs given x y s t p q = p ∙ sym q
 
 pub put-refusal-one : OneAnswer 0 put-refusal-kinds.ps put-refusal-kinds.r put-refusal.Post
 put-refusal-one κs given x y s t p q = p ∙ sym q

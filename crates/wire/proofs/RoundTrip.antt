@@ -2,10 +2,11 @@
 -- Assumes nothing.
 use Prim.Native.Nat.{ℕ, zero, suc, _+_, _-_, _*_, _/_, _%_, _^_, _≤_, _<_}
 use mathlib.Core.Path.{_≡_, refl, sym, ap, _∙_, subst}
+use mathlib.Core.Bool.{true}
 use mathlib.Core.List.{List, [], _∷_, _++_, append-nil}
 use native.Mathlib.Nat.{add-zero, zero-add, zero-mul, mul-assoc, pow-succ', one-le-pow, mul-add-div-right, mul-add-mod-self-right, mod-eq-of-lt, div-lt-iff-lt-mul}
 use native.Mathlib.Omega.{arith}
-use borrow.Author.Tests.{le-leb}
+use borrow.Author.Tests.{le-leb, eq-eqb}
 use lib.Dec.{lit<}
 use lib.Arith.{digits-lt}
 use lib.Pow.{suc-ones, pow-pos}
@@ -13,15 +14,17 @@ use lib.ListN.{length, getD, take, drop, length-append, List·getD-append}
 use lib.Seq.{drop-at, take-at, getD-drop, length-take-le}
 use Rattle.wire.specs.Bytes.{be, digits, splice}
 use Rattle.wire.specs.Fields.{readFixed, field, fixed, written}
-use Rattle.wire.specs.Numbers.{lenOf, roomOf, limit, codeOf, widthOf, form, encode, readForm, readNumber, putBytes}
+use Rattle.wire.specs.Numbers.{lenOf, roomOf, limit, codeOf, widthOf, form, encode, isShortest, inForm, readForm, readNumber, putBytes}
+use Rattle.wire.specs.declared.Fixed.the-variants.{Value as FixedValue}
+use Rattle.wire.specs.Exactly.{FieldsAccept}
 use Rattle.wire.specs.declared.Number.{Number}
-use Rattle.wire.specs.declared.Number.the-variants.{Value, Ends}
+use Rattle.wire.specs.declared.Number.the-variants.{Value}
 use Rattle.wire.proofs.Bytes.{be-digits, length-fixed, digits-head}
 use Rattle.wire.proofs.Lengths.{code-fits, small-code, width-found}
 use Rattle.wire.proofs.Writing.{placed-yes, one-splice, length-encode}
 
 -- a field of len bytes, with anything before and after it, reads as what it holds
-pub read-fixed : (len n : ℕ) (p q : List ℕ) (at : ℕ) → length p ≡ at → n < 256 ^ len → Value n (at + len) ≡ readFixed len (p ++ (fixed len n ++ q)) at
+pub read-fixed : (len n : ℕ) (p q : List ℕ) (at : ℕ) → length p ≡ at → n < 256 ^ len → FixedValue n (at + len) ≡ readFixed len (p ++ (fixed len n ++ q)) at
 unfolding readFixed
 read-fixed len n p q at e h =
     let s : List ℕ = p ++ (fixed len n ++ q) in
@@ -32,7 +35,7 @@ read-fixed len n p q at e h =
     rw (le-leb (at + len) (length s) l, t, b)
 
 -- a field that was written is read back
-pub fixed-back : (xs : List ℕ) (at len v : ℕ) → v < 256 ^ len → at + len ≤ length xs → Value v (at + len) ≡ readFixed len (written xs at (fixed len v)) at
+pub fixed-back : (xs : List ℕ) (at len v : ℕ) → v < 256 ^ len → at + len ≤ length xs → FixedValue v (at + len) ≡ readFixed len (written xs at (fixed len v)) at
 fixed-back xs at len v h l =
     rw (← placed-yes xs at (fixed len v) (omega (arith, length-fixed len v)) .1)
     (read-fixed len v (take at xs) (drop (at + length (fixed len v)) xs) at (length-take-le at xs (omega arith)) h)
@@ -55,8 +58,8 @@ module _ (k v : ℕ) (h : k < 4) (l : v < roomOf k) where
   form-whole : k * roomOf k + v < 256 ^ lenOf k
   form-whole = subst (λ (n : ℕ). k * roomOf k + v < 256 ^ n) (suc-ones k) (whole (2 ^ k - 1) k v h l)
 
-  -- v in the form of code k, with anything before and after it, reads as v
-  pub read-form : (p q : List ℕ) (at : ℕ) → length p ≡ at → Value v (at + lenOf k) ≡ readNumber (p ++ (form k v ++ q)) at
+  -- v in the form of code k, with anything before and after it, reads as v, and whether the form is the shortest is told
+  pub read-form : (p q : List ℕ) (at : ℕ) → length p ≡ at → Value v (at + lenOf k) (isShortest k v) ≡ readNumber (p ++ (form k v ++ q)) at
   unfolding readNumber readForm form
   read-form p q at e =
       let s : List ℕ = p ++ (form k v ++ q) in
@@ -67,14 +70,19 @@ module _ (k v : ℕ) (h : k < 4) (l : v < roomOf k) where
       let m : (k * roomOf k + v) % roomOf k ≡ v = rw (mul-add-mod-self-right, mod-eq-of-lt l) in
       rw (g, form-head, ← read-fixed (lenOf k) (k * roomOf k + v) p q at e form-whole, m)
 
+pub fields-accept : FieldsAccept
+fields-accept R k v h l before behind refused f =
+    ap (λ (n : Number). field n refused f) (sym (read-form k v h l before behind (length before) refl))
+
 -- the shortest form of v, anywhere in s
-pub read-encoded : (s p q : List ℕ) (v at : ℕ) → v ≤ limit → s ≡ p ++ (encode v ++ q) → length p ≡ at → Value v (at + widthOf v) ≡ readNumber s at
+pub read-encoded : (s p q : List ℕ) (v at : ℕ) → v ≤ limit → s ≡ p ++ (encode v ++ q) → length p ≡ at → Value v (at + widthOf v) true ≡ readNumber s at
 unfolding encode
 read-encoded s p q v at h e l =
     let k : codeOf v < 4 = small-code v h in
-    rw (e, width-found v k) (read-form (codeOf v) v k (code-fits v k) p q at l)
+    rw (e, width-found v k)
+    (ap (Value v (at + lenOf (codeOf v))) (sym (eq-eqb (codeOf v) (codeOf v) refl)) ∙ read-form (codeOf v) v k (code-fits v k) p q at l)
 
 -- what `put_number` wrote, `read_number` reads
-pub read-back : (xs : List ℕ) (at v : ℕ) → v ≤ limit → at + widthOf v ≤ length xs → Value v (at + widthOf v) ≡ readNumber (putBytes xs at (v ∷ [])) at
+pub read-back : (xs : List ℕ) (at v : ℕ) → v ≤ limit → at + widthOf v ≤ length xs → Value v (at + widthOf v) true ≡ readNumber (putBytes xs at (v ∷ [])) at
 read-back xs at v h l =
     read-encoded (putBytes xs at (v ∷ [])) (take at xs) (drop (at + length (encode v)) xs) v at h (one-splice xs at v h l) (length-take-le at xs (omega arith))

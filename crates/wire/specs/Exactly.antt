@@ -2,11 +2,14 @@
 use Prim.Native.Nat.{ℕ, _+_, _/_, _≤_, _<_}
 use mathlib.Core.Path.{_≡_}
 use mathlib.Core.Logic.{_↔_, _⊎_}
-use mathlib.Core.List.{List, [], _∷_}
+use mathlib.Core.Bool.{Bool, true}
+use mathlib.Core.List.{List, [], _∷_, _++_}
 use lib.ListN.{length, getD}
-use Rattle.wire.specs.Fields.{readFixed, placed, written}
-use Rattle.wire.specs.Numbers.{lenOf, limit, encodeAll, readNumber, lengthOf, putAnswer, putBytes}
-use Rattle.wire.specs.Refusals.{numberRefusal, putRefusal, lengthRefusal}
+use Rattle.wire.specs.Bytes.{Octets}
+use Rattle.wire.specs.Fields.{readFixed, field, placed, written}
+use Rattle.wire.specs.Numbers.{lenOf, roomOf, limit, widthOf, form, encodeAll, readNumber, lengthOf, putAnswer, putBytes}
+use Rattle.wire.specs.declared.Number.the-variants.{Value}
+use Rattle.wire.specs.Refusals.{numberRefusal, fixedRefusal, putRefusal, lengthRefusal}
 
 -- one of these numbers
 abbrev pub OneOf : ℕ → List ℕ → Type 0
@@ -26,11 +29,21 @@ pub record Reads (refusal ends end : ℕ) : Type 0 where
 
 -- a fixed field, of any length
 abbrev pub FixedReads : Type 0
-FixedReads = (len : ℕ) (s : List ℕ) (at : ℕ) → Reads (numberRefusal (readFixed len s at)) (length s) (at + len)
+FixedReads = (len : ℕ) (s : List ℕ) (at : ℕ) → Reads (fixedRefusal (readFixed len s at)) (length s) (at + len)
 
 -- a number, whose first byte says its length
 abbrev pub NumberReads : Type 0
 NumberReads = (s : List ℕ) (at : ℕ) → Reads (numberRefusal (readNumber s at)) (length s) (at + lenOf (getD s at 0 / 64))
+
+-- "whether the form was the shortest" (02, No. 5): it takes as many bytes as the writer's
+abbrev pub FormsTold : Type 0
+FormsTold = (s : List ℕ) (at v next : ℕ) (shortest : Bool) → Octets s → readNumber s at ≡ Value v next shortest → shortest ≡ true ↔ next ≡ at + widthOf v
+
+-- "frame fields accept it": v in the form of any code that holds it, wherever it stands, is a field of the value v
+abbrev pub FieldsAccept : Type 1
+FieldsAccept =
+    (R : Type 0) (k v : ℕ) → k < 4 → v < roomOf k → (before behind : List ℕ) (refused : R) (f : ℕ → ℕ → R)
+    → field (readNumber (before ++ (form k v ++ behind)) (length before)) refused f ≡ f v (length before + lenOf k)
 
 -- a write of numbers gives 5 for a number above the limit, then 9 where the room is short
 pub record Writes (refusal room end : ℕ) (vs : List ℕ) : Type 0 where

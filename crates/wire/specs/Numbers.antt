@@ -2,10 +2,12 @@
 use Prim.Native.Nat.{ℕ, zero, suc, _-_, _+_, _*_, _/_, _%_, _^_}
 use mathlib.Core.List.{List, [], _∷_, _++_}
 use mathlib.Core.Bool.{Bool, true, false}
-use lib.Dec.{leb, ltb}
+use lib.Dec.{eqb, leb, ltb}
 use lib.ListN.{length, getD}
 use Rattle.wire.specs.Bytes.{pick}
-use Rattle.wire.specs.Fields.{readFixed, field, fixed, placed, after}
+use Rattle.wire.specs.Fields.{readFixed, fixed, placed, after}
+use Rattle.wire.specs.declared.Fixed.{Fixed}
+use Rattle.wire.specs.declared.Fixed.the-variants.{Value as FixedValue, Ends as FixedEnds}
 use Rattle.wire.specs.declared.Number.{Number}
 use Rattle.wire.specs.declared.Number.the-variants.{Value, Ends}
 use Rattle.wire.specs.declared.Put.{Put}
@@ -29,17 +31,7 @@ largestOf k = roomOf k - 1
 abbrev pub limit : ℕ
 limit = 2 ^ 62 - 1
 
--- ---- reading: "Readers accept longer forms"
-
--- the number at at in the form of code k
-unfoldable pub readForm : ℕ → List ℕ → ℕ → Number
-readForm k s at = field (readFixed (lenOf k) s at) Ends (λ v next. Value (v % roomOf k) next)
-
--- "the top two bits of the first byte give" the code
-unfoldable pub readNumber : List ℕ → ℕ → Number
-readNumber s at = readForm (getD s at 0 / 64) s at
-
--- ---- writing: "Writers use the shortest"
+-- ---- the shortest form
 
 -- the first of the n codes from k that holds v, or k + n where none does
 unfoldable pub firstFrom : ℕ → ℕ → ℕ → ℕ
@@ -52,6 +44,36 @@ codeOf v = firstFrom 4 0 v
 -- how many bytes v takes, or 0 where no form holds it
 unfoldable pub widthOf : ℕ → ℕ
 widthOf v = pick (ltb (codeOf v) 4) (lenOf (codeOf v)) 0
+
+-- ---- reading: "Readers accept longer forms"
+
+-- "whether the form was the shortest" (02, No. 5): code k is the first that holds v
+abbrev pub isShortest : ℕ → ℕ → Bool
+isShortest k v = eqb (codeOf v) k
+
+-- a field in the form of code k without the code, which stands above the value
+abbrev pub belowCode : ℕ → Fixed → Fixed
+belowCode k (FixedValue v next) = FixedValue (v % roomOf k) next
+belowCode k FixedEnds = FixedEnds
+
+-- a value in the form of code k, and whether that is its shortest
+abbrev pub withForm : ℕ → Fixed → Number
+withForm k (FixedValue v next) = Value v next (isShortest k v)
+withForm k FixedEnds = Ends
+
+-- the number that a field is in the form of code k
+abbrev pub inForm : ℕ → Fixed → Number
+inForm k field = withForm k (belowCode k field)
+
+-- the number at at in the form of code k
+unfoldable pub readForm : ℕ → List ℕ → ℕ → Number
+readForm k s at = inForm k (readFixed (lenOf k) s at)
+
+-- "the top two bits of the first byte give" the code
+unfoldable pub readNumber : List ℕ → ℕ → Number
+readNumber s at = readForm (getD s at 0 / 64) s at
+
+-- ---- writing: "Writers use the shortest"
 
 -- v with the code above it, in the form of code k
 unfoldable pub form : ℕ → ℕ → List ℕ

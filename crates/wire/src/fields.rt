@@ -4,7 +4,7 @@ ghost use Prim.Native.Nat.{_≤_};
 ghost use lib.ListN.{length};
 ghost use Rattle.wire.specs.Bytes.{be};
 ghost use Rattle.wire.specs.Fields.{readFixed, fixed, placed, written};
-use crate::Number;
+use crate::Fixed;
 use crate::Put;
 
 pub(crate) fn wide(x: u8) -> u64
@@ -41,19 +41,19 @@ fn fill(buf: &mut [u8], v: u64)
 }
 
 // The field of len bytes at at, high byte first.
-pub(crate) fn read_fixed(s: &[u8], at: usize, len: usize) -> Number
+pub(crate) fn read_fixed(s: &[u8], at: usize, len: usize) -> Fixed
     requires { ⌜ len ≤ 8 ⌝ }
     ensures { λ r. ⌜ r ≡ readFixed len (now (s .entry)) at ⌝ }
 {
     if s.len() < at {
-        return Number::Ends;
+        return Fixed::Ends;
     }
     if s.len() - at < len {
-        return Number::Ends;
+        return Fixed::Ends;
     }
     let end = at + len;
     let value = join(&s[at..end]);
-    Number::Value { value, next: end }
+    Fixed::Value { value, next: end }
 }
 
 // Writes the lowest len bytes of v at at.
@@ -72,14 +72,14 @@ pub(crate) fn put_fixed(buf: &mut [u8], at: usize, len: usize, v: u64) -> Put
 }
 
 // The fixed field of four bytes at at.
-pub fn read_fixed4(s: &[u8], at: usize) -> Number
+pub fn read_fixed4(s: &[u8], at: usize) -> Fixed
     ensures { λ r. ⌜ r ≡ readFixed 4 (now (s .entry)) at ⌝ }
 {
     read_fixed(s, at, 4)
 }
 
 // The fixed field of eight bytes at at.
-pub fn read_fixed8(s: &[u8], at: usize) -> Number
+pub fn read_fixed8(s: &[u8], at: usize) -> Fixed
     ensures { λ r. ⌜ r ≡ readFixed 8 (now (s .entry)) at ⌝ }
 {
     read_fixed(s, at, 8)

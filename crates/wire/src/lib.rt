@@ -4,7 +4,7 @@
 ghost use mathlib.Core.Path.{_≡_};
 ghost use Prim.Native.Nat.{_<_};
 ghost use Rattle.wire.specs.Numbers.{lenOf, largestOf};
-ghost use Rattle.wire.specs.Refusals.{numberRefusal, putRefusal, lengthRefusal};
+ghost use Rattle.wire.specs.Refusals.{numberRefusal, fixedRefusal, putRefusal, lengthRefusal};
 
 mod fields;
 mod numbers;
@@ -58,8 +58,18 @@ pub(crate) fn form_at(code: usize) -> Form
     FORMS[code]
 }
 
-// What reading a number finds: its value and the place after it, or that the bytes end inside it.
+// What reading a number finds: its value, the place after it and whether its form was the shortest, or that the bytes end inside it.
 pub enum Number {
+    Value {
+        value: u64,
+        next: usize,
+        shortest: bool,
+    },
+    Ends,
+}
+
+// What reading a fixed field finds: its value and the place after it, or that the bytes end inside it.
+pub enum Fixed {
     Value { value: u64, next: usize },
     Ends,
 }
@@ -89,8 +99,24 @@ impl Number {
         ensures { λ r. ⌜ r ≡ numberRefusal self ⌝ }
     {
         match self {
-            Number::Value { value: _, next: _ } => 0,
+            Number::Value {
+                value: _,
+                next: _,
+                shortest: _,
+            } => 0,
             Number::Ends => 2,
+        }
+    }
+}
+
+impl Fixed {
+    // The paper's number for the answer, 0 for accepted.
+    pub fn refusal(self) -> u64
+        ensures { λ r. ⌜ r ≡ fixedRefusal self ⌝ }
+    {
+        match self {
+            Fixed::Value { value: _, next: _ } => 0,
+            Fixed::Ends => 2,
         }
     }
 }

@@ -3,9 +3,10 @@ ghost use mathlib.Core.Path.{_≡_};
 ghost use mathlib.Core.List.{[], _∷_};
 ghost use Prim.Native.Nat.{_<_, _≤_};
 ghost use lib.ListN.{length, getD};
-ghost use Rattle.wire.specs.Fields.{placed, written};
-ghost use Rattle.wire.specs.Numbers.{roomOf, codeOf, widthOf, readForm, readNumber, form, putAnswer, putBytes};
+ghost use Rattle.wire.specs.Fields.{readFixed, placed, written};
+ghost use Rattle.wire.specs.Numbers.{lenOf, roomOf, codeOf, widthOf, belowCode, readNumber, form, putAnswer, putBytes};
 use crate::Fit;
+use crate::Fixed;
 use crate::Number;
 use crate::Put;
 use crate::fields::put_fixed;
@@ -57,29 +58,25 @@ pub fn width_by_table(v: u64) -> usize
     0
 }
 
-// Reads the number at at in the form of the code: the field's bits below the code are the value.
-fn read_form(s: &[u8], at: usize, code: usize) -> Number
+// Reads the field of the code's length at at: its bits below the code are the value.
+fn read_form(s: &[u8], at: usize, code: usize) -> Fixed
     requires { ⌜ code < 4 ⌝ }
-    ensures { λ r. ⌜ r ≡ readForm code (now (s .entry)) at ⌝ }
+    ensures { λ r. ⌜ r ≡ belowCode code (readFixed (lenOf code) (now (s .entry)) at) ⌝ }
 {
     let f = form_at(code);
     let len = f.len;
-    let Number::Value { value, next } = read_fixed(s, at, len) else {
-        return Number::Ends;
+    let Fixed::Value { value: bits, next } = read_fixed(s, at, len) else {
+        return Fixed::Ends;
     };
-    Number::Value {
-        value: value % (f.largest + 1),
-        next,
-    }
+    let value = bits % (f.largest + 1);
+    Fixed::Value { value, next }
 }
 
-// Reads the number at at, whose first byte gives a code from 1 on.
-fn read_longer(s: &[u8], at: usize) -> Number
-    requires { ⌜ (at < length (now s)) × (64 ≤ getD (now s) at 0) ⌝ }
-    ensures { λ r. ⌜ r ≡ readNumber (now (s .entry)) at ⌝ }
+// The same for a code from 1 on. Each arm has its length as a constant, so that it compiles to a few loads.
+fn read_longer_form(s: &[u8], at: usize, code: usize) -> Fixed
+    requires { ⌜ (0 < code) × (code < 4) ⌝ }
+    ensures { λ r. ⌜ r ≡ belowCode code (readFixed (lenOf code) (now (s .entry)) at) ⌝ }
 {
-    let code = s[at] / 64;
-    // Each arm has its length as a constant, so that it compiles to a few loads.
     match code {
         1 => read_form(s, at, 1),
         2 => read_form(s, at, 2),
@@ -87,7 +84,26 @@ fn read_longer(s: &[u8], at: usize) -> Number
     }
 }
 
-// Reads the number at at. A form that is longer than it need be is accepted.
+// Reads the number at at, whose first byte gives a code from 1 on.
+// The form is the shortest where the next shorter one does not hold the value: asked once, so that callers have all of this in line.
+fn read_longer(s: &[u8], at: usize) -> Number
+    requires { ⌜ (at < length (now s)) × (64 ≤ getD (now s) at 0) ⌝ }
+    ensures { λ r. ⌜ r ≡ readNumber (now (s .entry)) at ⌝ }
+{
+    let code = (s[at] / 64) as usize;
+    let Fixed::Value { value, next } = read_longer_form(s, at, code) else {
+        return Number::Ends;
+    };
+    let shorter = form_at(code - 1);
+    let shortest = shorter.largest < value;
+    Number::Value {
+        value,
+        next,
+        shortest,
+    }
+}
+
+// Reads the number at at. A form that is longer than it need be is accepted, and told.
 pub fn read_number(s: &[u8], at: usize) -> Number
     ensures { λ r. ⌜ r ≡ readNumber (now (s .entry)) at ⌝ }
 {
@@ -101,6 +117,7 @@ pub fn read_number(s: &[u8], at: usize) -> Number
         return Number::Value {
             value: first,
             next: at + short.len,
+            shortest: true,
         };
     }
     read_longer(s, at)

@@ -3,9 +3,10 @@
 use Rattle.wire.proofs.Reading.{stop, next}
 use Rattle.frames.specs.Types.{ackType}
 use Rattle.frames.specs.Ack.{readRanges}
-use Rattle.frames.proofs.Types.{ack-width, type-cut, type-other, type-longer, type-right}
+use Rattle.frames.proofs.Types.{type-cut, type-other, type-longer, type-right}
 use Rattle.frames.proofs.Answers.{both, joined}
 use borrow.Author.Needs.{needs}
+use borrow.Author.Tests.{not-true, not-false}
 use native.Mathlib.Omega.{arith}
 use Rattle.frames.proofs.ack_frame.read_ack.Statement.{statement}
 use Rattle.frames.proofs.ack_frame.read_ack.Tie as tie
@@ -20,17 +21,17 @@ enum-told : tie.Need-enum-told
 enum-told c = search needs
 
 returns : tie.Need-returns
-returns c = both (type-cut ackType ack-width _ _ _ _ (c .before .before .read-number .ensures) (c .enum-told .given .1))
+returns c = both (type-cut ackType _ _ _ _ (c .before .before .read-number .ensures) (c .enum-told .given .1))
 
 returns-2 : tie.Need-returns-2
 returns-2 c =
     let k = c .before .before in
-    both (type-other ackType ack-width _ _ _ _ (k .before .before .read-number .ensures) (k .kind .given .1) (c .if1 .taken))
+    both (type-other ackType _ _ _ _ (k .before .before .read-number .ensures) (k .kind .given .1) (c .if1 .taken))
 
 returns-3 : tie.Need-returns-3
 returns-3 c =
     let k = c .before .before .before in
-    both (type-longer ackType ack-width _ _ _ _ (k .before .before .read-number .ensures) (k .kind .given .1) (c .before .if1 .left) (λ q. omega (arith, c .if2 .taken)))
+    both (type-longer ackType _ _ _ _ (k .before .before .read-number .ensures) (k .kind .given .1) (c .before .if1 .left) (not-true _ (c .if2 .taken)))
 
 read-number-requires-2 : tie.Need-read-number-requires-2
 read-number-requires-2 c κs = search needs
@@ -46,7 +47,7 @@ returns-4 c =
     let t = c .before .before .before in
     let k = t .before .before .before in
     both
-    (type-right ackType ack-width _ _ _ _ (k .before .before .read-number .ensures) (k .kind .given .1) (t .before .if1 .left) (omega (arith, t .if2 .left))
+    (type-right ackType _ _ _ _ (k .before .before .read-number .ensures) (k .kind .given .1) (t .before .if1 .left) (not-false _ (t .if2 .left))
     (stop _ _ (c .enum-told2 .given .1) (c .before .before .read-number2 .ensures)))
 
 read-number-requires-3 : tie.Need-read-number-requires-3
@@ -64,7 +65,7 @@ returns-5 c =
     let t = k1 .before .before .before in
     let k = t .before .before .before in
     both
-    (type-right ackType ack-width _ _ _ _ (k .before .before .read-number .ensures) (k .kind .given .1) (t .before .if1 .left) (omega (arith, t .if2 .left))
+    (type-right ackType _ _ _ _ (k .before .before .read-number .ensures) (k .kind .given .1) (t .before .if1 .left) (not-false _ (t .if2 .left))
     (next _ _ (k1 .largest .given .1) (k1 .before .before .read-number2 .ensures)
     (stop _ _ (c .enum-told3 .given .1) (c .before .before .read-number3 .ensures))))
 
@@ -84,7 +85,7 @@ returns-6 c =
     let t = k1 .before .before .before in
     let k = t .before .before .before in
     both
-    (type-right ackType ack-width _ _ _ _ (k .before .before .read-number .ensures) (k .kind .given .1) (t .before .if1 .left) (omega (arith, t .if2 .left))
+    (type-right ackType _ _ _ _ (k .before .before .read-number .ensures) (k .kind .given .1) (t .before .if1 .left) (not-false _ (t .if2 .left))
     (next _ _ (k1 .largest .given .1) (k1 .before .before .read-number2 .ensures)
     (next _ _ (k2 .delay .given .1) (k2 .before .before .read-number3 .ensures)
     (stop _ _ (c .enum-told4 .given .1) (c .before .before .read-number4 .ensures)))))
@@ -104,7 +105,7 @@ returns-7 c =
     let t = k1 .before .before .before in
     let k = t .before .before .before in
     both
-    (type-right ackType ack-width _ _ _ _ (k .before .before .read-number .ensures) (k .kind .given .1) (t .before .if1 .left) (omega (arith, t .if2 .left))
+    (type-right ackType _ _ _ _ (k .before .before .read-number .ensures) (k .kind .given .1) (t .before .if1 .left) (not-false _ (t .if2 .left))
     (next _ _ (k1 .largest .given .1) (k1 .before .before .read-number2 .ensures)
     (next _ _ (k2 .delay .given .1) (k2 .before .before .read-number3 .ensures)
     (next _ _ (k3 .count .given .1) (k3 .before .before .read-number4 .ensures)

@@ -65,11 +65,11 @@ returns-2 c =
 array-share-prefix-numbers-2 : tie.Need-array-share-prefix-numbers-2 Inv-loop μ-loop
 array-share-prefix-numbers-2 c = omega (arith, c .before .before .before .before .before .before .before .before .loop .inv)
 
-slice-aggregate-judge-next : tie.Need-slice-aggregate-judge-next Inv-loop μ-loop
-slice-aggregate-judge-next c = sym (length-take-le _ _ (omega (arith, c .before .before .before .before .before .before .before .before .before .loop .inv)))
+slice-aggregate-judge-field : tie.Need-slice-aggregate-judge-field Inv-loop μ-loop
+slice-aggregate-judge-field c = sym (length-take-le _ _ (omega (arith, c .before .before .before .before .before .before .before .before .before .loop .inv)))
 
-judge-next-requires : tie.Need-judge-next-requires Inv-loop μ-loop
-judge-next-requires c κs = search needs
+judge-field-requires : tie.Need-judge-field-requires Inv-loop μ-loop
+judge-field-requires c κs = search needs
 
 stopped-requires-2 : tie.Need-stopped-requires-2 Inv-loop μ-loop
 stopped-requires-2 c κs = search needs
@@ -82,7 +82,7 @@ returns-3 c =
     let e = sym (c .before .before .before .before .before .before .before .read-number .ensures) ∙ c .before .before .before .before .before .value .given .1 in
     let t = c .stopped2 .ensures in
     let n = c .before .if2 .taken in
-    (found-stopped (c .stopped2 .result) (c .before .before .judge-next .result) (t .0) n ∙ refused-now s (l .numbers) (l .at) (l .count) (readNumbers s) (c .before .before .before .before .before .before .before .before .before .before .before .loop-test .taken) (l .inv .1 .0) (l .inv .1 .1 .1) _ _ (c .before .before .judge-next .result) w e (c .before .before .judge-next .ensures) n, (omega (arith, t .1), omega (arith, t .1)))
+    (found-stopped (c .stopped2 .result) (c .before .before .judge-field .result) (t .0) n ∙ refused-now s (l .numbers) (l .at) (l .count) (readNumbers s) (c .before .before .before .before .before .before .before .before .before .before .before .loop-test .taken) (l .inv .1 .0) (l .inv .1 .1 .1) _ _ (c .before .before .judge-field .result) _ w e (c .before .before .judge-field .ensures) n, (omega (arith, t .1), omega (arith, t .1)))
 
 mul-numbers : tie.Need-mul-numbers Inv-loop μ-loop
 mul-numbers c = omega (arith, c .before .before .before .before .before .before .before .before .before .before .loop-test .taken)
@@ -104,7 +104,7 @@ loop-again c =
     let h = c .before .before .before .before .before .before .before .before .before .before .loop-test .taken in
     let w : l .count < wantedOf (take (l .count) (l .numbers)) = rw (c .before .before .before .before .before .before .before .before .wanted .ensures) at (c .before .before .before .before .before .before .before .if1 .left) in
     let e = sym (c .before .before .before .before .before .before .read-number .ensures) ∙ c .before .before .before .before .value .given .1 in
-    (omega (arith, h), (simp length-set (l .inv .1 .0), (accepted-within s (l .at) _ _ (λ i. o i .fits) e, more-now s (l .numbers) (l .at) (l .count) (readNumbers s) h (l .inv .1 .0) (l .inv .1 .1 .1) _ _ (c .before .judge-next .result) w e (c .before .judge-next .ensures) (c .if2 .left))))
+    (omega (arith, h), (simp length-set (l .inv .1 .0), (accepted-within s (l .at) _ _ (λ i. o i .fits) e, more-now s (l .numbers) (l .at) (l .count) (readNumbers s) h (l .inv .1 .0) (l .inv .1 .1 .1) _ _ (c .before .judge-field .result) _ w e (c .before .judge-field .ensures) (c .if2 .left))))
 
 returns-4 : tie.Need-returns-4 Inv-loop μ-loop
 returns-4 c =
@@ -129,8 +129,8 @@ read-numbers-spec =
     stopped-requires
     returns-2
     array-share-prefix-numbers-2
-    slice-aggregate-judge-next
-    judge-next-requires
+    slice-aggregate-judge-field
+    judge-field-requires
     stopped-requires-2
     returns-3
     mul-numbers

@@ -17,8 +17,8 @@ form-at-requires c κs = search needs
 read-fixed-requires : tie.Need-read-fixed-requires
 read-fixed-requires c κs = omega (arith, len-le _ (c .before .before .pre))
 
-enum-known-value : tie.Need-enum-known-value
-enum-known-value c = search needs
+enum-known-bits : tie.Need-enum-known-bits
+enum-known-bits c = search needs
 
 enum-told : tie.Need-enum-told
 enum-told c = search needs
@@ -26,18 +26,19 @@ enum-told c = search needs
 returns : tie.Need-returns
 returns c = form-ends _ _ _ _ (c .before .before .before .form-at .ensures .0) (c .before .before .read-fixed .ensures) (c .enum-told .given .1)
 
-add-t9 : tie.Need-add-t9
-add-t9 c =
+add-value : tie.Need-add-value
+add-value c =
     let f = c .before .before .before .before .before in
     omega (arith, room-of _ _ (f .form-at .ensures .1), room-le _ (f .before .before .pre))
 
-rem-t10 : tie.Need-rem-t10
-rem-t10 c = search needs
+rem-value : tie.Need-rem-value
+rem-value c = search needs
 
 returns-2 : tie.Need-returns-2
 returns-2 c =
-    let f = c .before .before .before .before .before in
-    form-value _ _ _ _ (f .form-at .ensures .0) (c .before .before .before .before .read-fixed .ensures) _ (f .form-at .ensures .1) (c .before .before .value .given .1)
+    let r = c .before .before .before .before in
+    let f = r .before in
+    form-value _ _ _ _ (f .form-at .ensures .0) (r .read-fixed .ensures) _ (f .form-at .ensures .1) (c .before .before .bits .given .1)
 
 pub read-form-spec : {M : Type 1} → statement M
 read-form-spec =
@@ -45,9 +46,9 @@ read-form-spec =
     (tie.spec
     form-at-requires
     read-fixed-requires
-    enum-known-value
+    enum-known-bits
     enum-told
     returns
-    add-t9
-    rem-t10
+    add-value
+    rem-value
     returns-2)

@@ -1,0 +1,107 @@
+//! Document 02, No. 5: every number of a report in each of its longer forms, one at a time and in pairs, whole and cut, in
+//! reports that are in order and in reports with another fault.
+
+use crate::compare_report::{break_header, compare_readers, header, numbers_of, records};
+use crate::made_up_bytes::{append_in_form, longer_forms};
+use crate::numbers::width;
+use crate::random::Random;
+use crate::refusals::{ACCEPTED, COUNT_OR_TYPE, ENDS, LONGER_FORM, SUM};
+use crate::report::read_report;
+use crate::tally::Tally;
+
+/// The places of three numbers in the list of a report's numbers.
+const LOST: usize = 5;
+const AVERAGE: usize = 6;
+const METRICS: usize = 7;
+
+/// A number of the list in a form that is longer than needed: its place and the form's length.
+type Longer = (usize, usize);
+
+/// One report, in order or with a fault, in all these forms.
+pub fn round(random: &mut Random, tally: &mut Tally) -> Result<(), String> {
+    let mut header = header(random);
+    let mut count = random.one_of(&[0, 1, 3]);
+    match random.below(8) {
+        0 => header.total ^= 1,
+        1 => header.metrics = random.between(5, 63),
+        2 => (header.metrics, header.kinds[0]) = (header.metrics.max(1), random.one_of(&[0, 3, 0x14, 63])),
+        3 => count = 51,
+        4 => break_header(random, &mut header),
+        _ => {}
+    }
+    let numbers = numbers_of(&header, count);
+    let tail = records(random, count);
+    let plain = read_report(&bytes_of(&numbers, &tail, &[])).err().unwrap_or(ACCEPTED);
+    let all: Vec<Longer> = (0..numbers.len())
+        .flat_map(|place| longer_forms(numbers[place]).into_iter().map(move |length| (place, length)))
+        .collect();
+    for (index, first) in all.iter().enumerate() {
+        let result = compare(random, tally, &bytes_of(&numbers, &tail, &[*first]))?;
+        note_one(tally, &numbers, *first, plain, result);
+        compare_cuts(random, tally, &numbers, *first)?;
+        for second in all[index + 1..].iter().filter(|second| second.0 != first.0) {
+            let result = compare(random, tally, &bytes_of(&numbers, &tail, &[*first, *second]))?;
+            tally.note("15 for the first of two longer forms", plain == ACCEPTED && result == LONGER_FORM);
+            judge(plain, result)?;
+        }
+        judge(plain, result)?;
+    }
+    Ok(())
+}
+
+/// The report with these numbers in longer forms.
+fn bytes_of(numbers: &[u64], tail: &[u8], longer: &[Longer]) -> Vec<u8> {
+    let mut bytes = Vec::new();
+    for (place, number) in numbers.iter().enumerate() {
+        let form = longer.iter().find(|(own, _)| *own == place).map_or(width(*number), |(_, length)| *length);
+        append_in_form(&mut bytes, *number, form);
+    }
+    bytes.extend_from_slice(tail);
+    bytes
+}
+
+/// Both readers on the same bytes; the result on which they agree.
+fn compare(random: &mut Random, tally: &mut Tally, bytes: &[u8]) -> Result<u64, String> {
+    compare_readers(random, tally, bytes)?;
+    Ok(read_report(bytes).err().unwrap_or(ACCEPTED))
+}
+
+/// A report that is in order but for longer forms gives 15, and no other number.
+fn judge(plain: u64, result: u64) -> Result<(), String> {
+    if plain == ACCEPTED && result != LONGER_FORM {
+        return Err(format!("a report in a longer form gives {result} by the papers"));
+    }
+    Ok(())
+}
+
+/// The place of the number at which the report in shortest forms is refused, if its numbers bring a refusal.
+fn fault_at(numbers: &[u64]) -> Option<usize> {
+    (0..numbers.len()).find(|place| read_report(&bytes_of(&numbers[..=*place], &[], &[])).err().unwrap_or(ENDS) != ENDS)
+}
+
+/// What one longer form in a report shows, whose result would be `plain` without it.
+fn note_one(tally: &mut Tally, numbers: &[u64], (place, _): Longer, plain: u64, result: u64) {
+    tally.note("15 for one longer form alone", plain == ACCEPTED && result == LONGER_FORM);
+    tally.note("11 after lost, before a 15 in the average", plain == SUM && place == AVERAGE && result == SUM);
+    if plain == ACCEPTED || fault_at(numbers) != Some(place) {
+        return;
+    }
+    let refused = result == LONGER_FORM;
+    tally.note("15 at lost, before 11", refused && plain == SUM && place == LOST);
+    let refused = refused && plain == COUNT_OR_TYPE;
+    tally.note("15 at the metric count, before 10", refused && place == METRICS);
+    tally.note("15 at a metric type, before 10", refused && place > METRICS && place < numbers.len() - 1);
+    tally.note("15 at the entry count, before 10", refused && place == numbers.len() - 1);
+}
+
+/// Cut inside the longer form: 2, unless an earlier number has its fault.
+fn compare_cuts(random: &mut Random, tally: &mut Tally, numbers: &[u64], longer: Longer) -> Result<(), String> {
+    let (place, length) = longer;
+    let start: usize = numbers[..place].iter().map(|number| width(*number)).sum();
+    let bytes = bytes_of(numbers, &[], &[longer]);
+    for end in start + 1..start + length {
+        let result = compare(random, tally, &bytes[..end])?;
+        tally.note("2 where a longer form is cut", result == ENDS);
+    }
+    Ok(())
+}
