@@ -23,5 +23,7 @@ pub mod Tallied
 pub mod Charged
 pub mod Bound
 pub mod Reached
+pub mod NoLoss
+pub mod NoLossCases
 pub mod Settled
 pub mod Only

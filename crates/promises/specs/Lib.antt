@@ -12,4 +12,6 @@ pub mod Passed
 pub mod Counted
 pub mod Bound
 pub mod Reached
+pub mod NoLoss
+pub mod NoLossCases
 pub mod Settled
