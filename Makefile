@@ -1,5 +1,5 @@
 # The two commands of README.md are `make test` and `make run`; the others show the library from outside.
-.PHONY: help test run picture archive program build host rust install uninstall paper compare bench
+.PHONY: help test run picture archive program command build host rust install uninstall paper compare bench
 
 CFLAGS = -std=c11 -Wall -Wextra -Wpedantic -Werror -O2 -Iinclude
 # The archive as hosts link it; the toolchain names it after its crate.
@@ -8,6 +8,8 @@ SOURCES = crates.txt $(shell find crates -name '*.rt' -o -name '*.antt')
 # The loop over packets, an archive of its own that `make bench` alone links.
 STREAM = target/staticlib/libstream.a
 PAPER = target/paper/paper
+# The command of the technical desk.
+COMMAND = target/command/lumbixet
 RUSTC = rustc --edition 2021 -L target/lib
 
 # How many inputs `make compare` makes for the replay program, and how many rounds of calls for the archive.
@@ -24,7 +26,8 @@ help:
 	@echo 'make picture  draw the bundled hearing and its answers as examples/hearing.svg'
 	@echo 'make host     prove and build the archive for hosts in C, hold the header to it, and run the example room'
 	@echo 'make rust     build the crate for hosts in Rust (bindings/rust) and run its tests'
-	@echo 'make build    prove and build what is installed: the archive and the replay program'
+	@echo 'make command  build the command of the technical desk, target/command/lumbixet'
+	@echo 'make build    prove and build what is installed: the archive, the replay program and the command'
 	@echo 'make install  put them in their places, with header, pkg-config file and manual page: PREFIX=/usr/local DESTDIR='
 	@echo 'make uninstall  take them out again'
 	@echo 'make compare  compare the program and the archive with a second implementation that was written from the papers'
@@ -41,10 +44,8 @@ run:
 	@echo
 	@target/bin/replay < examples/hearing.trace
 
-picture:
-	@rt check replay
-	@target/bin/replay < examples/hearing.trace > target/hearing.lines
-	@python3 tools/draw-hearing examples/hearing.trace target/hearing.lines > target/hearing.svg
+picture: command
+	@$(COMMAND) replay --picture target/hearing.svg examples/hearing.trace > target/hearing.lines
 	@mv target/hearing.svg examples/hearing.svg
 	@echo 'picture: examples/hearing.svg'
 
@@ -59,7 +60,14 @@ $(ARCHIVE): $(SOURCES)
 program:
 	@rt check replay
 
-build: archive program
+# The command, by rustc alone as the crate is. It is built whole, so that the crate's calls are in line.
+command: archive
+	@mkdir -p target/command
+	@$(RUSTC) -O --crate-type rlib --crate-name lumbixet -o target/command/liblumbixet.rlib bindings/rust/src/lib.rs
+	@$(RUSTC) -C opt-level=3 -C codegen-units=1 -C lto -C panic=abort --crate-name lumbixet_command \
+	    --extern lumbixet=target/command/liblumbixet.rlib -o $(COMMAND) command/src/main.rs
+
+build: archive program command
 
 # Neither proves nor builds: whoever may write to PREFIX need not have the toolchain.
 install:
@@ -114,6 +122,9 @@ compare: paper
 	@echo 'The replay program and the second implementation'
 	@$(PAPER) compare-replay target/bin/replay $(INPUTS)
 	@echo
+	@echo 'The command, over the same inputs'
+	@$(PAPER) compare-replay '$(COMMAND) replay' $(INPUTS)
+	@echo
 	@echo 'The archive and the second implementation'
 	@$(PAPER) compare-archive $(ROUNDS)
 
@@ -129,3 +140,4 @@ bench: paper
 	@bash -c 'TIMEFORMAT="replay  %R s"; time target/bin/replay < target/bench/large.trace > target/bench/replay.lines'
 	@bash -c 'TIMEFORMAT="paper   %R s"; time $(PAPER) replay < target/bench/large.trace > target/bench/paper.lines'
 	@cmp target/bench/replay.lines target/bench/paper.lines
+	@bench/replay-times target/bench/large.trace

@@ -43,10 +43,12 @@ pub fn run(program: &str, count: usize) -> Result<(), String> {
     seen.judge()
 }
 
-/// What the program prints for an input, or why it cannot be said.
+/// What the program prints for an input, or why it cannot be said. Words behind the program's name are its arguments.
 fn lines_of(program: &str, bytes: &[u8]) -> Result<Vec<u8>, String> {
     let failed = |error: std::io::Error| format!("{program}: {error}");
-    let mut child = Command::new(program).stdin(Stdio::piped()).stdout(Stdio::piped()).spawn().map_err(failed)?;
+    let mut words = program.split(' ');
+    let mut command = Command::new(words.next().unwrap_or_default());
+    let mut child = command.args(words).stdin(Stdio::piped()).stdout(Stdio::piped()).spawn().map_err(failed)?;
     let mut stdin = child.stdin.take().expect("stdin is piped");
     let mut stdout = child.stdout.take().expect("stdout is piped");
     let mut printed = Vec::new();

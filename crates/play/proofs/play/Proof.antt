@@ -1,5 +1,6 @@
--- `play::play` is safe and ends. The loop's invariant: the two buffers keep their lengths. The measure is the number of turns that are left.
+-- `play::play` is safe and ends. The loop's invariant: the two buffers keep their lengths, and less than a record is kept. The measure is the number of turns that are left.
 -- Assumes nothing.
+use Prim.Native.Nat.{_<_}
 use mathlib.Core.Path.{_≡_}
 use native.Mathlib.Omega.{arith}
 use borrow.Author.Needs.{needs}
@@ -8,7 +9,7 @@ use Rattle.play.proofs.play.Statement.{statement}
 use Rattle.play.proofs.play.Tie as tie
 
 abbrev Inv-loop : tie.InvT-loop
-Inv-loop input₀ output₀ place₀ turns₀ input output place turns = (length input ≡ 65520) × (length output ≡ 171990)
+Inv-loop input₀ output₀ place₀ turns₀ input output place turns = (length input ≡ 65520) × (length output ≡ 171990) × (place .kept < 24)
 
 abbrev μ-loop : tie.MeasureT-loop
 μ-loop input₀ output₀ place₀ turns₀ input output place turns = turns
@@ -17,7 +18,7 @@ opening-requires : tie.Need-opening-requires Inv-loop μ-loop
 opening-requires c κs = search needs
 
 loop-holds : tie.Need-loop-holds Inv-loop μ-loop
-loop-holds c = (search needs, search needs)
+loop-holds c = (search needs, search needs, omega arith)
 
 slice-aggregate-turn : tie.Need-slice-aggregate-turn Inv-loop μ-loop
 slice-aggregate-turn c = search needs
@@ -35,7 +36,7 @@ loop-less : tie.Need-loop-less Inv-loop μ-loop
 loop-less c = omega arith
 
 loop-again : tie.Need-loop-again Inv-loop μ-loop
-loop-again c = (search needs, search needs)
+loop-again c = (search needs, search needs, search needs)
 
 returns : tie.Need-returns Inv-loop μ-loop
 returns c = tt

@@ -1,0 +1,81 @@
+//! What `--help` and `--version` print.
+
+use crate::arguments::Command;
+
+/// The version is the header's; it is said nowhere else.
+pub fn version() -> &'static str {
+    let header = include_str!("../../include/lumbixet.h");
+    let behind = header.split("#define LUMBIXET_VERSION_TEXT \"").nth(1);
+    behind.and_then(|text| text.split('"').next()).unwrap_or("of unknown number")
+}
+
+const STATUS: &str = "
+Exit status: 0; 1 where something in the data was refused and --strict is given; 2 for wrong use;
+3 where reading or writing failed.
+";
+
+pub fn general() -> String {
+    format!("{GENERAL}{STATUS}")
+}
+
+pub fn of(command: Command) -> String {
+    let text = match command {
+        Command::Replay => REPLAY,
+        Command::Frame => FRAME,
+        Command::Report => REPORT,
+    };
+    format!("{text}{STATUS}")
+}
+
+const GENERAL: &str = "lumbixet COMMAND [OPTION..] [FILE..]
+
+Says what a receiver of a live hearing answers, and what frames and reports hold.
+
+  replay [FILE..]   replays the events of a hearing: index, result and cause of each
+  frame HEX|FILE..  reads ACK, ACK_FREQUENCY and IMMEDIATE_ACK frames, field by field
+  report FILE..     reads feedback reports, field by field, and their entries
+
+  --help            says this; after a command, what that command takes
+  --version         prints the version
+
+- in place of a FILE is standard input.
+";
+
+const REPLAY: &str = "lumbixet replay [OPTION..] [FILE..]
+
+Gives each event record of 24 bytes to a receiver, and prints a line for each: its index from 0, the
+result (0 accepted, else the refusal), and why an acknowledgment is due afterwards (0 nothing is due,
+1 IMMEDIATE_ACK, 2 count, 3 order, 4 congestion, 5 timer). Each FILE is a hearing of its own. Without
+one, and for -, it reads standard input, and answers what has come.
+
+  --words           says each line in a sentence
+  --json            prints one object a line, for machines
+  --picture OUT     also draws the hearing, as SVG, to the file OUT
+  --strict          exit status 1 where a record was refused
+  --help            says this
+  --version         prints the version
+";
+
+const FRAME: &str = "lumbixet frame [OPTION..] HEX|FILE..
+
+Reads the frames ACK (type 02), ACK_FREQUENCY and IMMEDIATE_ACK, one after the other, and says what each
+field holds, or what was refused and where. An argument of hexadecimal digits in pairs is HEX, and
+such arguments in a row are one run of bytes; any other names a FILE that holds the bytes (for one with
+a name like digits, say ./02). - is standard input.
+
+  --json            prints one object a line, for machines
+  --strict          exit status 1 where a frame was refused
+  --help            says this
+  --version         prints the version
+";
+
+const REPORT: &str = "lumbixet report [OPTION..] FILE..
+
+Reads feedback reports, one in each FILE, and says what each field holds, with the entries as a table,
+or what was refused and where. - is standard input.
+
+  --json            prints one object a line, for machines
+  --strict          exit status 1 where a report was refused
+  --help            says this
+  --version         prints the version
+";

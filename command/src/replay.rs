@@ -1,0 +1,82 @@
+//! `lumbixet replay`: the lines of hearings, plain, in words or as objects, and a picture.
+
+use std::convert::TryInto;
+use std::ffi::OsStr;
+
+use crate::arguments::{Form, Options};
+use crate::event::{Hearing, Told, RECORD};
+use crate::input::{self, Input, Trouble};
+use crate::json;
+use crate::output::{Failed, Output, Status};
+use crate::picture;
+use crate::text::Counter;
+use crate::trace::Trace;
+use crate::words;
+
+/// How many bytes are read at most at a time.
+const PIECE: usize = RECORD << 12;
+
+/// What is done with each record's answer.
+struct Teller<'a> {
+    form: Form,
+    file: &'a OsStr,
+    refused: bool,
+    index: Counter,
+    trace: Option<Trace>,
+}
+
+impl Teller<'_> {
+    #[inline]
+    fn tell(&mut self, told: &Told, output: &mut Output) {
+        self.refused |= told.result != 0;
+        match self.form {
+            // "Each line has record index from 0, result (0 accepted, else refusal), cause afterwards."
+            Form::Plain => self.index.put_line(&mut output.lines, told.result, told.cause),
+            Form::Words => words::put(told, output),
+            Form::Json => json::put_told(self.file, told, output),
+        }
+        if let Some(trace) = &mut self.trace {
+            trace.note(told);
+        }
+    }
+}
+
+pub fn run(options: &Options, output: &mut Output) -> Result<Status, Failed> {
+    let headings = options.form != Form::Json;
+    input::each(&options.operands, headings, output, |name, input, output| {
+        let trace = options.picture.as_ref().map(|_| Trace::new());
+        let mut teller = Teller { form: options.form, file: name, refused: false, index: Counter::new(), trace };
+        play(input, output, &mut teller)?;
+        if let (Some(trace), Some(name)) = (&teller.trace, &options.picture) {
+            input::save(name, picture::draw(trace).as_bytes()).map_err(Trouble::Output)?;
+        }
+        Ok(if options.strict && teller.refused { Status::Refused } else { Status::Done })
+    })
+}
+
+/// Plays what has come as soon as it has come; only the end of the input ends a record early.
+fn play(input: &mut Input, output: &mut Output, teller: &mut Teller) -> Result<(), Trouble> {
+    let mut hearing = Hearing::open();
+    let mut piece = vec![0; PIECE];
+    let mut kept = 0;
+    loop {
+        let count = input.read(&mut piece[kept..]).map_err(Trouble::Input)?;
+        if count == 0 {
+            break;
+        }
+        let filled = kept + count;
+        let whole = filled - filled % RECORD;
+        for record in piece[..whole].chunks_exact(RECORD) {
+            if let Ok(record) = record.try_into() {
+                teller.tell(&hearing.answer(record), output);
+            }
+        }
+        output.flush().map_err(Trouble::Output)?;
+        piece.copy_within(whole..filled, 0);
+        kept = filled - whole;
+    }
+    if kept > 0 {
+        teller.tell(&hearing.short(kept), output);
+    }
+    output.flush().map_err(Trouble::Output)
+}

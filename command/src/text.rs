@@ -1,0 +1,67 @@
+//! Numbers and bytes as text.
+
+/// A number in decimal that counts up from 0. Its digits stand at the start.
+pub struct Counter {
+    digits: [u8; 24],
+    length: usize,
+}
+
+impl Counter {
+    pub fn new() -> Counter {
+        Counter { digits: [b'0'; 24], length: 1 }
+    }
+
+    #[inline]
+    fn up(&mut self) {
+        for digit in self.digits[..self.length].iter_mut().rev() {
+            if *digit != b'9' {
+                *digit += 1;
+                return;
+            }
+            *digit = b'0';
+        }
+        // 99 becomes 100
+        self.digits[0] = b'1';
+        self.length += 1;
+    }
+
+    /// Puts the number, a blank, the result, a blank, the cause and a line end, and counts up.
+    #[inline]
+    pub fn put_line(&mut self, lines: &mut Vec<u8>, result: u64, cause: u64) {
+        let start = lines.len();
+        // a copy of a fixed length takes no call
+        lines.extend_from_slice(&self.digits);
+        lines.truncate(start + self.length);
+        if result < 10 && cause < 10 {
+            lines.extend_from_slice(&[b' ', b'0' + result as u8, b' ', b'0' + cause as u8, b'\n']);
+        } else {
+            lines.extend_from_slice(format!(" {result} {cause}\n").as_bytes());
+        }
+        self.up();
+    }
+}
+
+/// A number with a comma between each three digits.
+pub fn grouped(number: impl ToString) -> String {
+    let text = number.to_string();
+    let (sign, digits) = text.strip_prefix('-').map_or(("", &text[..]), |digits| ("-", digits));
+    let mut grouped = sign.to_string();
+    for (place, digit) in digits.chars().enumerate() {
+        if place > 0 && (digits.len() - place) % 3 == 0 {
+            grouped.push(',');
+        }
+        grouped.push(digit);
+    }
+    grouped
+}
+
+/// So many of a thing; an `s` makes the plural.
+pub fn counted(number: usize, thing: &str) -> String {
+    format!("{} {thing}{}", grouped(number), if number == 1 { "" } else { "s" })
+}
+
+/// Bytes in hexadecimal, a blank between them.
+pub fn hex(bytes: &[u8]) -> String {
+    let pairs: Vec<String> = bytes.iter().map(|byte| format!("{byte:02x}")).collect();
+    pairs.join(" ")
+}

@@ -1,0 +1,114 @@
+# What the command prints for good and for refused data. command/tests/run reads this file.
+# shellcheck shell=bash disable=SC2154,SC2034
+
+# ---- replay: document 01's own lines
+cat >seven.lines <<'END'
+0 0 0
+1 0 0
+2 0 0
+3 0 0
+4 0 3
+5 0 0
+6 6 0
+END
+run ./lumbixet replay seven.trace
+ends 'a file' 0 seven.lines
+run ./lumbixet replay <seven.trace
+ends 'standard input' 0 seven.lines
+run ./lumbixet replay - <seven.trace
+ends 'standard input, by name' 0 seven.lines
+run ./lumbixet replay -- seven.trace
+ends 'a file behind --' 0 seven.lines
+run ./lumbixet replay --strict seven.trace
+ends 'a refused record, and --strict' 1 seven.lines
+run ./lumbixet replay empty
+ends 'an empty hearing' 0 empty
+
+printf '==> seven.trace <==\n' | cat - seven.lines >several.lines
+printf '\n==> standard input <==\n0 0 0\n' >>several.lines
+head -c 24 seven.trace >one.trace
+run ./lumbixet replay seven.trace - <one.trace
+ends 'several files, each a hearing of its own' 0 several.lines
+
+run ./lumbixet replay --words seven.trace
+ends 'in words' 0 "$tests/seven.words"
+run ./lumbixet replay --words odd.trace
+ends 'every kind of event, in words' 0 "$tests/odd.words"
+run ./lumbixet replay --json odd.trace
+ends 'every kind of event, for machines' 0 "$tests/odd.json"
+
+run ./lumbixet replay --picture drawn.svg "$top/examples/hearing.trace"
+run cat drawn.svg
+ends 'the picture' 0 "$top/examples/hearing.svg"
+
+# ---- replay: 24 MB, and the proved program
+"$top/target/bin/replay" <long.trace >long.lines
+run ./lumbixet replay long.trace
+ends '24 MB' 0 long.lines
+run bash -c 'cat long.trace | ./lumbixet replay'
+ends '24 MB through a pipe' 0 long.lines
+
+# ---- replay: a pipe that delivers slowly, and cuts records, is answered at once
+slowly ./lumbixet replay
+
+# ---- frames: P1 and P6 of document 01 with IMMEDIATE_ACK between
+run ./lumbixet frame 40 af 05 0a 80 00 61 a8 03 1f '02 05 00 01 02 00 01'
+ends 'frames' 0 "$tests/frames.words"
+run ./lumbixet frame --json 40af050a800061a803 1F 02050001020001
+ends 'frames for machines' 0 "$tests/frames.json"
+bytes 40af050a800061a8031f02050001020001 >frames
+run ./lumbixet frame frames
+ends 'frames in a file' 0 "$tests/frames.words"
+run ./lumbixet frame - <frames
+ends 'frames from standard input' 0 "$tests/frames.words"
+{ printf '==> HEX <==\nIMMEDIATE_ACK, 1 byte at byte 0\n  0  1f  type  IMMEDIATE_ACK: the sender asks for an acknowledgment\n\n==> frames <==\n' &&
+    cat "$tests/frames.words"; } >both
+run ./lumbixet frame 1f frames
+ends 'digits and a file' 0 both
+
+# DIGITS, and the line that they give.
+refused_frame() {
+    echo "frame refused ($2" >line
+    run ./lumbixet frame --strict "$1"
+    ends "the frame $1" 1 line
+}
+refused_frame 401f '3: the frame type is another one) at byte 0, type'
+refused_frame 03 '3: the frame type is another one) at byte 0, type'
+refused_frame 40 '2: the bytes end inside a field) at byte 0, type'
+refused_frame 40af05 '2: the bytes end inside a field) at byte 3, ack-eliciting threshold'
+refused_frame 0205000102 '2: the bytes end inside a field) at byte 5, gap'
+refused_frame 0205000006 '14: a range goes below number 0) at byte 4, first range'
+refused_frame 02050001020002 '14: a range goes below number 0) at byte 6, range length'
+echo '{"file":"-","at":0,"frame":null,"result":2,"refusal":"the bytes end inside a field","place":0,"field":"type"}' >line
+run ./lumbixet frame --json - <empty
+ends 'no bytes, for machines' 0 line
+
+# ---- reports: P9 of document 01 with two metrics and three entries
+head='80 0f 42 40 80 01 86 a0 03 01 01 01 03'
+seven='0000000000000007 00 000000 000003e8' eight='0000000000000008 01 000000 00011170' nine='0000000000000009 02 000000 00000000'
+bytes "$head 02 02 40 fa 12 0f 03 $seven $eight $nine" | tr -d ' ' >good.report
+run ./lumbixet report good.report
+ends 'a report' 0 "$tests/report.words"
+run ./lumbixet report - <good.report
+ends 'a report from standard input' 0 "$tests/report.words"
+run ./lumbixet report --json good.report
+ends 'a report for machines' 0 "$tests/report.json"
+
+# DIGITS of a report, and the line that they give.
+refused_report() {
+    bytes "$1" >bad.report
+    echo "report refused ($2" >line
+    run ./lumbixet report --strict bad.report
+    ends "the report $1" 1 line
+}
+refused_report '80 0f 42 40 80 01' '2: the bytes end inside a field) at byte 4, interval'
+refused_report '80 0f 42 40 80 01 86 a0 04 01 01 01 03 00 00' '11: the total differs from its parts) at byte 11, lost'
+refused_report "$head 05" '10: a metric count, metric type or entry count breaks its rule) at byte 13, metric count'
+refused_report "$head 01 03 00 00" '10: a metric count, metric type or entry count breaks its rule) at byte 14, metric type'
+refused_report "$head 00 02 $seven 00" '2: the bytes end inside a field) at byte 31, entry 1'
+refused_report "$head 00 02 $eight $seven" '12: an entry breaks its rule) at byte 31, entry 1'
+refused_report "$head 00 02 $seven $seven" '12: an entry breaks its rule) at byte 31, entry 1'
+refused_report "$head 00 00 ff" '13: bytes remain after the report) at byte 15, what follows'
+echo '{"file":"-","result":13,"refusal":"bytes remain after the report","place":15,"field":"what follows"}' >line
+run ./lumbixet report --json - <bad.report
+ends 'a refused report for machines' 0 line

@@ -1,0 +1,23 @@
+# What bash offers for the words typed so far. command/tests/run reads this file.
+# shellcheck shell=bash disable=SC2154,SC2034
+
+# shellcheck source=/dev/null
+. "$top/command/completion.bash"
+
+# OFFERED, WORDS..: what is offered for the last of the words.
+offers() {
+    local offered=$1
+    shift
+    COMP_WORDS=(lumbixet "$@") COMP_CWORD=$#
+    _lumbixet
+    tried=$((tried + 1))
+    [ "${COMPREPLY[*]}" = "$offered" ] || fault "completion of '$*'" "it offers '${COMPREPLY[*]}', not '$offered'"
+}
+offers 'replay report' re
+offers '--help --version' --
+offers '--words' replay --w
+offers '--json' frame --j
+offers '' report --w
+offers 'seven.trace' replay --words seven.t
+offers 'good.report' report good
+offers '' play s
