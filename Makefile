@@ -1,5 +1,5 @@
 # The two commands of README.md are `make test` and `make run`; the others show the library from outside.
-.PHONY: help test run picture archive program command build host rust install uninstall paper compare bench
+.PHONY: help test run picture week archive program command build host rust install uninstall paper compare bench
 
 CFLAGS = -std=c11 -Wall -Wextra -Wpedantic -Werror -O2 -Iinclude
 # The archive as hosts link it; the toolchain names it after its crate.
@@ -12,8 +12,9 @@ PAPER = target/paper/paper
 COMMAND = target/command/lumbixet
 RUSTC = rustc --edition 2021 -L target/lib
 
-# How many inputs `make compare` makes for the replay program, and how many rounds of calls for the archive.
+# How many inputs `make compare` makes for the replay program, how many files for the week's, and how many rounds of calls for the archive.
 INPUTS = 3400
+WEEKS = 3600
 ROUNDS = 20000
 
 # Where `make install` puts the library, and a folder to stage it under.
@@ -23,14 +24,15 @@ DESTDIR =
 help:
 	@echo 'make test     the gate: layout, documents, examples, comparisons, every proof, every must-fail edit, every program'
 	@echo 'make run      prove the replay program and replay the bundled hearing: index, result and cause of each record'
-	@echo 'make picture  draw the bundled hearing and its answers as examples/hearing.svg'
+	@echo 'make picture  draw the bundled hearing and its answers as examples/hearing.svg, and the bundled week as examples/week.svg'
+	@echo "make week     prove the week's program and print the page of the bundled week"
 	@echo 'make host     prove and build the archive for hosts in C, hold the header to it, and run the example room'
 	@echo 'make rust     build the crate for hosts in Rust (bindings/rust) and run its tests'
 	@echo 'make command  build the command of the technical desk, target/command/lumbixet'
-	@echo 'make build    prove and build what is installed: the archive, the replay program and the command'
-	@echo 'make install  put them in their places, with header, pkg-config file and manual page: PREFIX=/usr/local DESTDIR='
+	@echo 'make build    prove and build what is installed: the archive, the two programs and the command'
+	@echo 'make install  put them in their places, with header, pkg-config file and manual pages: PREFIX=/usr/local DESTDIR='
 	@echo 'make uninstall  take them out again'
-	@echo 'make compare  compare the program and the archive with a second implementation that was written from the papers'
+	@echo 'make compare  compare the programs and the archive with a second implementation that was written from the papers'
 	@echo 'make bench    compare the archive with plain C and time both, and the replay program beside the second implementation; no time is judged'
 
 test:
@@ -45,9 +47,20 @@ run:
 	@target/bin/replay < examples/hearing.trace
 
 picture: command
+	@rt check week
 	@$(COMMAND) replay --picture target/hearing.svg examples/hearing.trace > target/hearing.lines
 	@mv target/hearing.svg examples/hearing.svg
-	@echo 'picture: examples/hearing.svg'
+	@target/bin/week < examples/week.reports > target/week.lines
+	@python3 tools/draw-week target/week.lines > target/week.svg
+	@mv target/week.svg examples/week.svg
+	@echo 'picture: examples/hearing.svg and examples/week.svg'
+
+week:
+	@rt check week
+	@echo
+	@echo 'The page of examples/week.reports:'
+	@echo
+	@target/bin/week < examples/week.reports
 
 archive: $(ARCHIVE)
 
@@ -58,7 +71,7 @@ $(ARCHIVE): $(SOURCES)
 	@cp target/staticlib/libhost.a $@
 
 program:
-	@rt check replay
+	@rt check replay week
 
 # The command, by rustc alone as the crate is. It is built whole, so that the crate's calls are in line.
 command: archive
@@ -125,6 +138,10 @@ compare: paper
 	@echo 'The command, over the same inputs'
 	@$(PAPER) compare-replay '$(COMMAND) replay' $(INPUTS)
 	@echo
+	@echo "The week's program and the second implementation, in 64 KiB of stack"
+	@bash -c 'ulimit -s 64 && exec target/bin/week' < crates/week/stdin | cmp - crates/week/stdout
+	@$(PAPER) compare-week target/bin/week $(WEEKS)
+	@echo
 	@echo 'The archive and the second implementation'
 	@$(PAPER) compare-archive $(ROUNDS)
 
@@ -141,3 +158,9 @@ bench: paper
 	@bash -c 'TIMEFORMAT="paper   %R s"; time $(PAPER) replay < target/bench/large.trace > target/bench/paper.lines'
 	@cmp target/bench/replay.lines target/bench/paper.lines
 	@bench/replay-times target/bench/large.trace
+	@echo
+	@echo 'A week of 1 GB, made and not stored: the program, the second implementation, and the making alone'
+	@bash -c 'TIMEFORMAT="week    %R s"; time $(PAPER) week-large 1000000000 | target/bin/week > target/bench/week.lines'
+	@bash -c 'TIMEFORMAT="paper   %R s"; time $(PAPER) week-large 1000000000 | $(PAPER) week > target/bench/week-paper.lines'
+	@bash -c 'TIMEFORMAT="making  %R s"; time $(PAPER) week-large 1000000000 | cat > /dev/null'
+	@cmp target/bench/week.lines target/bench/week-paper.lines

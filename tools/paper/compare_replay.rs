@@ -44,7 +44,7 @@ pub fn run(program: &str, count: usize) -> Result<(), String> {
 }
 
 /// What the program prints for an input, or why it cannot be said. Words behind the program's name are its arguments.
-fn lines_of(program: &str, bytes: &[u8]) -> Result<Vec<u8>, String> {
+pub fn lines_of(program: &str, bytes: &[u8]) -> Result<Vec<u8>, String> {
     let failed = |error: std::io::Error| format!("{program}: {error}");
     let mut words = program.split(' ');
     let mut command = Command::new(words.next().unwrap_or_default());
@@ -66,14 +66,14 @@ fn lines_of(program: &str, bytes: &[u8]) -> Result<Vec<u8>, String> {
     Ok(printed)
 }
 
-fn difference(index: usize, made: &Input, expected: &[u8], printed: &[u8]) -> String {
+pub fn difference(index: usize, made: &Input, expected: &[u8], printed: &[u8]) -> String {
     let kept = fs::write(SAVED, &made.bytes).map_or_else(|error| error.to_string(), |()| format!("saved in {SAVED}"));
     let (expected, printed) = (String::from_utf8_lossy(expected), String::from_utf8_lossy(printed));
     let (expected, printed): (Vec<&str>, Vec<&str>) = (expected.split('\n').collect(), printed.split('\n').collect());
     let line = (0..).find(|line| expected.get(*line) != printed.get(*line)).unwrap_or(0);
     let shown = |lines: &[&str]| lines.get(line).map_or("nothing".to_string(), |text| format!("'{text}'"));
     format!(
-        "input {index} ({}, {} bytes, {kept}) differs at record {line}:\n  by the papers: {}\n  by the program: {}",
+        "input {index} ({}, {} bytes, {kept}) differs at line {line}:\n  by the papers: {}\n  by the program: {}",
         made.name,
         made.bytes.len(),
         shown(&expected),
@@ -111,7 +111,7 @@ impl Seen {
     }
 }
 
-fn print_table<K: std::fmt::Display>(what: &str, counts: &BTreeMap<K, usize>) {
+pub fn print_table<K: std::fmt::Display>(what: &str, counts: &BTreeMap<K, usize>) {
     for (key, count) in counts {
         println!("{:>18} {:<20} {:>9}", what, key.to_string(), count);
     }

@@ -19,6 +19,7 @@ mod compare_receiver;
 mod compare_replay;
 #[cfg(archive)]
 mod compare_report;
+mod compare_week;
 mod example_lines;
 mod examples;
 mod examples_receiver;
@@ -39,6 +40,8 @@ mod report;
 #[cfg(archive)]
 mod tally;
 mod traces;
+mod week;
+mod weeks;
 
 use std::io::{self, Write};
 use std::process::exit;
@@ -47,7 +50,10 @@ const USAGE: &str = "paper examples                      the settled and publish
 paper replay < TRACE                the lines of document 01's replay program
 paper compare-replay PROGRAM COUNT  the program's lines against these, over COUNT inputs
 paper compare-archive COUNT         the archive's calls against these, over COUNT rounds (built with --cfg archive)
-paper trace-large > TRACE           a trace of a million events, for timing";
+paper trace-large > TRACE           a trace of a million events, for timing
+paper week < FILE                   the page of document 02's week's totals
+paper compare-week PROGRAM COUNT    the program's pages against these, over COUNT files
+paper week-large BYTES > FILE       a week of so many bytes, for timing";
 
 fn main() {
     let words: Vec<String> = std::env::args().skip(1).collect();
@@ -59,6 +65,9 @@ fn main() {
         #[cfg(archive)]
         ["compare-archive", count] => compare_archive::run(number(count)),
         ["trace-large"] => io::stdout().write_all(&traces::large()).map_err(|error| error.to_string()),
+        ["week"] => week::run(io::stdin().lock(), io::stdout().lock()).map_err(|error| error.to_string()),
+        ["compare-week", program, count] => compare_week::run(program, number(count)),
+        ["week-large", bytes] => weeks::large(number(bytes), io::stdout().lock()).map_err(|error| error.to_string()),
         _ => Err(USAGE.to_string()),
     };
     if let Err(why) = done {

@@ -34,5 +34,7 @@ pub const BELOW_ZERO: u64 = 14;
 pub const LONGER_FORM: u64 = 15;
 /// "k is above A or A is absent" (document 02, No. 12)
 pub const NOT_ACKNOWLEDGED: u64 = 19;
+/// Document 02, No. 13: "a report longer than 8,192 bytes, which is skipped"
+pub const TOO_LONG: u64 = 20;
 /// "it answers 'stale', and nothing changes": no refusal; a number that no refusal has.
 pub const STALE: u64 = 255;

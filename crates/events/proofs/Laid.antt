@@ -11,8 +11,9 @@ use Rattle.wire.specs.Fields.{placed, written}
 use Rattle.wire.specs.declared.Put.the-variants.{Done, NoRoom}
 use Rattle.wire.proofs.Bytes.{splice-splice}
 use Rattle.wire.proofs.Writing.{placed-no, placed-yes}
-use Rattle.events.specs.Lines.{placesOf, lastDigits, decimal, blank, lineEnd, line}
-use Rattle.events.proofs.Decimal.{length-decimal, word-places}
+use Rattle.decimal.specs.Decimal.{placesOf, lastDigits, decimal}
+use Rattle.events.specs.Lines.{blank, lineEnd, line}
+use Rattle.decimal.proofs.Decimal.{length-decimal, all-digits, word-places}
 
 -- a number in decimal and the byte that ends it
 abbrev pub column : ℕ → ℕ → List ℕ
@@ -20,10 +21,6 @@ column n ends = decimal n ++ (ends ∷ [])
 
 pub length-column : (n ends : ℕ) → length (column n ends) ≡ placesOf n + 1
 length-column n ends = simp length-append (omega (arith, length-decimal n))
-
-all-digits : (n k : ℕ) → k ≡ placesOf n → lastDigits k n [] ≡ decimal n
-unfolding decimal
-all-digits n k e = rw e
 
 -- ys is what the callee left of the part that it was lent
 pub column-laid : (xs ys : List ℕ) (at digits n ends : ℕ) → digits ≡ placesOf n → at + digits + 1 ≤ length xs

@@ -1,5 +1,4 @@
 pub mod Reading
-pub mod Decimal
 pub mod Laid
 pub mod Playing
 pub mod Cutting

@@ -12,7 +12,8 @@ use Rattle.receiver.specs.Calls.{opened}
 use Rattle.seen.specs.Ack.{rangesBelow, frame, largestWhere, rangesKept}
 use Rattle.receiver.specs.Write.{writeRefusal, afterWrite, writeAnswer}
 use Rattle.events.specs.Events.{readEvent, writeCall, eventCall, recordCall}
-use Rattle.events.specs.Lines.{placesFrom, placesOf, decimal, line}
+use Rattle.decimal.specs.Decimal.{placesFrom, placesOf, decimal}
+use Rattle.events.specs.Lines.{line}
 use Rattle.events.specs.Replay.{linesOf}
 use Rattle.events.specs.Settled.{SevenLines}
 

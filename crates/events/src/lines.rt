@@ -5,34 +5,9 @@ ghost use Prim.Native.Nat.{_+_, _≤_};
 ghost use lib.ListN.{length};
 ghost use Rattle.wire.specs.Bytes.{splice};
 ghost use Rattle.wire.specs.Fields.{placed, written};
-ghost use Rattle.events.specs.Lines.{placesOf, lastDigits, decimal, line};
+ghost use Rattle.decimal.specs.Decimal.{placesOf, decimal};
+ghost use Rattle.events.specs.Lines.{line};
 use wire::Put;
-
-// How many decimal digits n has.
-fn places(n: u64) -> usize
-    ensures { λ r. ⌜ (r ≡ placesOf n) × (r ≤ 20) ⌝ }
-{
-    let mut count: usize = 1;
-    let mut rest = n;
-    while 10 <= rest {
-        rest = rest / 10;
-        count += 1;
-    }
-    count
-}
-
-// Fills buf with the last digits of n.
-fn fill(buf: &mut [u8], n: u64)
-    ensures { λ r. ⌜ now (buf .exit) ≡ lastDigits (length (now (buf .entry))) n [] ⌝ }
-{
-    let mut rest = n;
-    let mut i = buf.len();
-    while 0 < i {
-        i -= 1;
-        buf[i] = 48 + (rest % 10) as u8;
-        rest = rest / 10;
-    }
-}
 
 // Writes n, which has so many digits, at at, and behind it a byte that ends it; answers the place after them.
 fn put_column(buf: &mut [u8], at: usize, n: u64, digits: usize, ends: u8) -> usize
@@ -40,7 +15,7 @@ fn put_column(buf: &mut [u8], at: usize, n: u64, digits: usize, ends: u8) -> usi
     ensures { λ r. ⌜ (r ≡ at + digits + 1) × (now (buf .exit) ≡ splice (now (buf .entry)) at (decimal n ++ (ends ∷ []))) ⌝ }
 {
     let end = at + digits;
-    fill(&mut buf[at..end], n);
+    decimal::fill(&mut buf[at..end], n);
     buf[end] = ends;
     end + 1
 }
@@ -49,9 +24,9 @@ fn put_column(buf: &mut [u8], at: usize, n: u64, digits: usize, ends: u8) -> usi
 pub fn put_line(buf: &mut [u8], at: usize, index: u64, result: u64, cause: u64) -> Put
     ensures { λ r. ⌜ (r ≡ placed (now (buf .entry)) at (line index result cause)) × (now (buf .exit) ≡ written (now (buf .entry)) at (line index result cause)) ⌝ }
 {
-    let first = places(index);
-    let second = places(result);
-    let third = places(cause);
+    let first = decimal::places(index);
+    let second = decimal::places(result);
+    let third = decimal::places(cause);
     let length = first + second + third + 3;
     if buf.len() < at {
         return Put::NoRoom;

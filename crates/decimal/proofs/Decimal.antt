@@ -11,7 +11,7 @@ use borrow.Author.Tests.{lt-ltb, le-ltb}
 use lib.Dec.{lit<}
 use lib.Arith.{mod-mul}
 use lib.ListN.{length, getD}
-use Rattle.events.specs.Lines.{placesFrom, placesOf, lastDigits, decimal, spelt, Digits, DecimalSpells}
+use Rattle.decimal.specs.Decimal.{placesFrom, placesOf, lastDigits, decimal, spelt, Digits, DecimalSpells}
 
 -- ---- how many digits
 
@@ -79,6 +79,10 @@ length-last (suc k) n tl = omega (arith, length-last k (n / 10) ((48 + n % 10) �
 pub length-decimal : (n : ℕ) → length (decimal n) ≡ placesOf n
 unfolding decimal
 length-decimal n = length-last (placesOf n) n [] ∙ add-zero (placesOf n)
+
+pub all-digits : (n k : ℕ) → k ≡ placesOf n → lastDigits k n [] ≡ decimal n
+unfolding decimal
+all-digits n k e = rw e
 
 spelt-last : (k n : ℕ) (tl : List ℕ) (acc : ℕ) → spelt acc (lastDigits k n tl) ≡ spelt (acc * 10 ^ k + n % 10 ^ k) tl
 spelt-last zero n tl acc = ap (λ (a : ℕ). spelt a tl) (omega arith)

@@ -1,4 +1,4 @@
--- `events::fill` meets its contract. The loop's invariant: the digits still to write, before those written, are the whole.
+-- `decimal::fill` meets its contract. The loop's invariant: the digits still to write, before those written, are the whole.
 -- Assumes nothing.
 use Prim.Native.Nat.{ℕ, zero, suc, _+_, _-_, _/_, _%_, _≤_, _<_}
 use mathlib.Core.Path.{_≡_, refl, ap, _∙_}
@@ -9,9 +9,9 @@ use native.Mathlib.Omega.{arith}
 use borrow.Author.Needs.{needs}
 use lib.Seq.{drop-length}
 use lib.ListN.{length, drop, set, length-set}
-use Rattle.events.specs.Lines.{lastDigits}
-use Rattle.events.proofs.lines.fill.Statement.{statement}
-use Rattle.events.proofs.lines.fill.Tie as tie
+use Rattle.decimal.specs.Decimal.{lastDigits}
+use Rattle.decimal.proofs.fill.Statement.{statement}
+use Rattle.decimal.proofs.fill.Tie as tie
 
 drop-set : (l : List ℕ) (i b : ℕ) → i < length l → drop i (set l i b) ≡ b ∷ drop (suc i) l
 drop-set [] i b h = absurd (not-suc-le-zero h)

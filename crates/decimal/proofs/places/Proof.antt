@@ -1,13 +1,13 @@
--- `events::places` meets its contract. The loop's invariant: the digits passed and those of the rest are all, and the last of the rest counts twice.
+-- `decimal::places` meets its contract. The loop's invariant: the digits passed and those of the rest are all, and the last of the rest counts twice.
 -- Assumes nothing.
 use Prim.Native.Nat.{_+_, _≤_}
 use mathlib.Core.Path.{_≡_}
 use native.Mathlib.Omega.{arith}
 use borrow.Author.Needs.{needs}
-use Rattle.events.specs.Lines.{placesOf}
-use Rattle.events.proofs.Decimal.{places-one, places-more, word-places}
-use Rattle.events.proofs.lines.places.Statement.{statement}
-use Rattle.events.proofs.lines.places.Tie as tie
+use Rattle.decimal.specs.Decimal.{placesOf}
+use Rattle.decimal.proofs.Decimal.{places-one, places-more, word-places}
+use Rattle.decimal.proofs.places.Statement.{statement}
+use Rattle.decimal.proofs.places.Tie as tie
 
 abbrev Inv-loop : tie.InvT-loop
 Inv-loop n count₀ rest₀ count rest = count + placesOf rest ≡ placesOf n + 1

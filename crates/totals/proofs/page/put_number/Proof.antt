@@ -1,0 +1,49 @@
+-- `totals::put_number` meets its contract: the digits that `fill` left go back in their place.
+-- Assumes nothing.
+use native.Mathlib.Omega.{arith}
+use Rattle.decimal.proofs.Decimal.{length-decimal}
+use Rattle.totals.proofs.Laid.{number-laid}
+use borrow.Author.Needs.{needs}
+use Rattle.totals.proofs.page.put_number.Statement.{statement}
+use Rattle.totals.proofs.page.put_number.Tie as tie
+
+places-requires : tie.Need-places-requires
+places-requires c κs = search needs
+
+add-end : tie.Need-add-end
+add-end c = search needs
+
+sub-fill : tie.Need-sub-fill
+sub-fill c = search needs
+
+part-fill-start : tie.Need-part-fill-start
+part-fill-start c = search needs
+
+part-fill-end : tie.Need-part-fill-end
+part-fill-end c = search needs
+
+fill-requires : tie.Need-fill-requires
+fill-requires c κs = search needs
+
+same-length : tie.Need-same-length
+same-length c = search needs
+
+returns : tie.Need-returns
+returns c =
+    let p = c .before .before .before .before in
+    let o = p .before .before .args in
+    let e = p .places .ensures in
+    (omega (arith, e .0, length-decimal (o .n)), number-laid (o .buf .now) _ (o .at) (p .places .result) (o .n) (e .0) (omega arith) (c .before .before .fill .ensures), omega arith)
+
+pub put-number-spec : {M : Type 1} → statement M
+put-number-spec =
+    tie.close
+    (tie.spec
+    places-requires
+    add-end
+    sub-fill
+    part-fill-start
+    part-fill-end
+    fill-requires
+    same-length
+    returns)
