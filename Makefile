@@ -24,9 +24,9 @@ DESTDIR =
 help:
 	@echo 'make test     the gate: layout, documents, examples, comparisons, every proof, every must-fail edit, every program'
 	@echo 'make run      prove the replay program and replay the bundled hearing: index, result and cause of each record'
-	@echo 'make picture  draw the bundled hearing and its answers as examples/hearing.svg, and the bundled week as examples/week.svg'
+	@echo 'make picture  draw the bundled hearing and its answers as examples/hearing.svg, the bundled week as examples/week.svg, and the reports on a hearing'\''s objects as examples/objects.svg'
 	@echo "make week     prove the week's program and print the page of the bundled week"
-	@echo 'make host     prove and build the archive for hosts in C, hold the header to it, and run the example room'
+	@echo 'make host     prove and build the archive for hosts in C, hold the headers to it, and run the examples in C'
 	@echo 'make rust     build the crate for hosts in Rust (bindings/rust) and run its tests'
 	@echo 'make command  build the command of the technical desk, target/command/lumbixet'
 	@echo 'make build    prove and build what is installed: the archive, the two programs and the command'
@@ -53,7 +53,9 @@ picture: command
 	@target/bin/week < examples/week.reports > target/week.lines
 	@python3 tools/draw-week target/week.lines > target/week.svg
 	@mv target/week.svg examples/week.svg
-	@echo 'picture: examples/hearing.svg and examples/week.svg'
+	@python3 tools/draw-objects examples/objects.expected > target/objects.svg
+	@mv target/objects.svg examples/objects.svg
+	@echo 'picture: examples/hearing.svg, examples/week.svg and examples/objects.svg'
 
 week:
 	@rt check week
@@ -96,14 +98,22 @@ host: archive
 	@target/host/check-header
 	@$(CC) $(CFLAGS) tools/check-room.c $(ARCHIVE) -o target/host/check-room
 	@target/host/check-room
+	@$(CC) $(CFLAGS) tools/check-tracker.c $(ARCHIVE) -o target/host/check-tracker
+	@target/host/check-tracker
 	@if command -v $(CXX) >/dev/null; then \
-	    echo '#include "lumbixet.h"' | $(CXX) -std=c++11 -Wall -Wextra -Wpedantic -Werror -Iinclude -fsyntax-only -x c++ -; fi
-	@sed -n '/^```c$$/,/^```$$/p' docs/DRIVING.md | sed '/^```/d' | \
-	    $(CC) $(CFLAGS) -Wno-unused-function -include tools/driving.h -fsyntax-only -x c -
+	    printf '#include "lumbixet.h"\n#include "lumbixet_tracker.h"\n' | $(CXX) -std=c++11 -Wall -Wextra -Wpedantic -Werror -Iinclude -fsyntax-only -x c++ -; fi
+	@set -e; for page in DRIVING TRACKING; do \
+	    sed -n '/^```c$$/,/^```$$/p' docs/$$page.md | sed '/^```/d' | \
+	        $(CC) $(CFLAGS) -Wno-unused-function -include tools/driving.h -fsyntax-only -x c -; \
+	done
 	@$(CC) $(CFLAGS) examples/room.c $(ARCHIVE) -o target/host/room
 	@target/host/room >target/host/room.out
 	@diff examples/room.expected target/host/room.out
 	@echo 'room: it printed what examples/room.expected says'
+	@$(CC) $(CFLAGS) examples/objects.c $(ARCHIVE) -o target/host/objects
+	@target/host/objects | diff examples/objects.expected -
+	@sed -n '/^```strip$$/,/^```$$/p' README.md | sed '/^```/d' | diff examples/objects.expected -
+	@echo 'objects: it printed what examples/objects.expected says, and README.md says the same'
 	@echo
 	@cat target/host/room.out
 
@@ -112,7 +122,7 @@ rust: archive
 	@mkdir -p target/rust
 	@$(RUSTC) -O --crate-type rlib --crate-name lumbixet -o target/rust/liblumbixet.rlib bindings/rust/src/lib.rs
 	@$(RUSTC) --crate-type rlib --crate-name lumbixet --cfg 'feature="std"' -o target/rust/with-std.rlib bindings/rust/src/lib.rs
-	@set -e; for test in room edges; do \
+	@set -e; for test in room edges objects; do \
 	    $(RUSTC) --test --extern lumbixet=target/rust/liblumbixet.rlib -o target/rust/$$test bindings/rust/tests/$$test.rs; \
 	    target/rust/$$test -q; \
 	done

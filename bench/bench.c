@@ -39,6 +39,9 @@ static const struct row rows[] = {
     {"timer, not yet due", look_at_timer, 0},
     {"report of 50 entries read", read_reports, 0},
     {"report of 50 entries written", write_reports, 0},
+    {"object arrived, record lent", arrive_objects, 0},
+    {"report of 256 objects made, all arrived", report_objects, 0},
+    {"report of 256 objects made, 255 lost", report_objects, 1},
 };
 
 /* Neither side: in the timer's place a function that only copies. */
@@ -124,6 +127,7 @@ int main(void)
     compare_frames();
     compare_receiver();
     compare_reports();
+    compare_trackers();
     printf("Compared before timing: %" PRIu64 " answers, all the same on both sides.\n\n", compared());
     measure_clock();
     print_machine();

@@ -8,5 +8,6 @@ void compare_numbers(void);
 void compare_frames(void);
 void compare_receiver(void);
 void compare_reports(void);
+void compare_trackers(void);
 
 #endif

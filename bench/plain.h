@@ -1,8 +1,8 @@
-/* The calls of lumbixet.h under another name: plain C from document 01, with the same answers and no proof. */
+/* The calls of lumbixet.h under another name: plain C from documents 01 and 02, with the same answers and no proof. */
 #ifndef PLAIN_H
 #define PLAIN_H
 
-#include "lumbixet.h"
+#include "lumbixet_tracker.h"
 
 lumbixet_number plain_read_number(const uint8_t *bytes, size_t length, size_t at);
 lumbixet_put plain_put_number(uint8_t *buffer, size_t length, size_t at, uint64_t value);
@@ -29,5 +29,11 @@ lumbixet_entries plain_find_entries(const uint8_t *bytes, size_t length);
 lumbixet_entry plain_read_entry(const uint8_t *entries, size_t length, size_t index);
 lumbixet_written plain_write_report(uint8_t *buffer, size_t length, lumbixet_header header, const uint8_t *records,
                                     size_t records_length);
+
+uint64_t plain_tracker_open(lumbixet_tracker *tracker, uint64_t first, uint64_t interval);
+uint64_t plain_tracker_arrived(lumbixet_tracker *tracker, uint64_t object, uint64_t time, uint64_t deadline);
+uint64_t plain_tracker_ended_early(lumbixet_tracker *tracker, uint64_t object, uint64_t time);
+lumbixet_report plain_tracker_report(const lumbixet_tracker *tracker, uint64_t time, uint64_t interval, uint8_t *entries,
+                                     size_t length);
 
 #endif

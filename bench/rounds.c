@@ -164,3 +164,39 @@ double write_reports(const struct side *side, int kind, int round)
     sink += sum;
     return (double)passed / CALLS;
 }
+
+/* Each object comes 20 ms after the one before, every seventh after its deadline; the first one is not timed. */
+double arrive_objects(const struct side *side, int kind, int round)
+{
+    (void)kind;
+    (void)round;
+    static lumbixet_tracker tracker;
+    uint64_t sum = 0, passed = 0;
+    for (size_t time = 0; time < 8; time++) {
+        side->tracker_open(&tracker, 1000, 20000);
+        sum += side->tracker_arrived(&tracker, 1000, 0, 0);
+        uint64_t from = now();
+        for (uint64_t i = 1; i < LUMBIXET_TRACKED; i++)
+            sum += side->tracker_arrived(&tracker, 1000 + i, 20000 * i, 20000 * i + (i % 7 ? 5 : 0));
+        passed += since(from);
+    }
+    sink += sum + tracker.objects[255];
+    return (double)passed / (8 * (LUMBIXET_TRACKED - 1));
+}
+
+/* All 256 objects make an entry: every one arrived (0), or the last one alone and the others are lost (1). */
+double report_objects(const struct side *side, int kind, int round)
+{
+    static lumbixet_tracker tracker;
+    static uint8_t entries[LUMBIXET_TRACKER_ROOM];
+    uint64_t sum = 0;
+    side->tracker_open(&tracker, 1000, 20000);
+    for (uint64_t i = kind ? 255 : 0; i < LUMBIXET_TRACKED; i++)
+        side->tracker_arrived(&tracker, 1000 + i, 20000 * i, 20000 * i + (i % 7 ? 5 : 0));
+    uint64_t from = now();
+    for (uint64_t i = 0; i < 64; i++)
+        sum += side->tracker_report(&tracker, 6000000 + i + (uint64_t)round, 100000, entries, sizeof entries).header.total + entries[15];
+    uint64_t passed = since(from);
+    sink += sum;
+    return (double)passed / 64;
+}

@@ -2,7 +2,7 @@
 #ifndef SIDES_H
 #define SIDES_H
 
-#include "lumbixet.h"
+#include "lumbixet_tracker.h"
 
 struct side {
     lumbixet_number (*read_number)(const uint8_t *, size_t, size_t);
@@ -24,6 +24,10 @@ struct side {
     lumbixet_entries (*find_entries)(const uint8_t *, size_t);
     lumbixet_entry (*read_entry)(const uint8_t *, size_t, size_t);
     lumbixet_written (*write_report)(uint8_t *, size_t, lumbixet_header, const uint8_t *, size_t);
+    uint64_t (*tracker_open)(lumbixet_tracker *, uint64_t, uint64_t);
+    uint64_t (*tracker_arrived)(lumbixet_tracker *, uint64_t, uint64_t, uint64_t);
+    uint64_t (*tracker_ended_early)(lumbixet_tracker *, uint64_t, uint64_t);
+    lumbixet_report (*tracker_report)(const lumbixet_tracker *, uint64_t, uint64_t, uint8_t *, size_t);
 };
 
 extern const struct side archive;

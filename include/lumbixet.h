@@ -12,12 +12,11 @@
  * record may hold anything: a record that is not consistent is refused with 1.
  *
  * Records and answers hold numbers and no pointers: they may be copied, kept, and compared by their bytes.
- * Threads: no state is shared between calls. Any number of them may run at once; where two lend the same
- * memory or go on from the same record, the host orders them.
- * Machine: x86-64 with the System V calling convention (Linux). The archive asks for memcpy and memset alone;
- * of the compiler C11 or C++11 is assumed.
+ * Threads: no state is shared between calls. Any number of them may run at once; where two lend the same memory or go
+ * on from the same record, the host orders them. Machine: x86-64 with the System V calling convention (Linux). The
+ * archive asks for memcpy and memset alone; of the compiler C11 or C++11 is assumed.
  * Versions: patch numbers change no declaration. While MAJOR is 0, a new MINOR may add calls, constants
- * and fields, and so change the size of a struct: compile header and archive of one version. 0.2 brought
+ * and fields, and so change the size of a struct: compile header and archive of one version. 0.2 brought lumbixet_tracker.h,
  * `confirmed` and lumbixet_confirm: a record is 256 bytes since, and one that was kept by 0.1 is opened anew.
  * Announced are ECN totals in lumbixet_receiver, and more metrics in lumbixet_header. Numbers keep their meaning.
  */
@@ -66,6 +65,7 @@ enum {
     LUMBIXET_BYTES_BEHIND = 13, /* bytes remain after a report */
     LUMBIXET_BELOW_ZERO = 14,   /* an ACK range goes below number 0 */
     LUMBIXET_LONGER_FORM = 15,  /* a report's number is not in its shortest form */
+    LUMBIXET_OUTSIDE = 17,      /* of the tracker: the object is none of the 256 */
     LUMBIXET_NOT_ACKNOWLEDGED = 19, /* the confirmed number is above the largest acknowledged, or none is acknowledged */
     LUMBIXET_STALE = 255        /* of lumbixet_threshold alone: an obsolete frame; nothing changed */
 };

@@ -25,6 +25,8 @@ static inline const char *lumbixet_refusal_text(uint64_t result)
         "a range goes below number 0",
         "a number is not in its shortest form",
     };
+    if (result == LUMBIXET_OUTSIDE)
+        return "the object is none of those tracked";
     if (result == LUMBIXET_NOT_ACKNOWLEDGED)
         return "this number was not acknowledged yet";
     if (result == LUMBIXET_STALE)

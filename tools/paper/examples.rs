@@ -1,14 +1,16 @@
-//! The settled examples of document 01, and the published examples of RFC 9000, appendix A.1: one line for each.
+//! The settled examples of document 01, the published examples of RFC 9000, appendix A.1, and examples of document 02's
+//! requests: one line for each.
 
 use crate::example_lines::Examples;
 use crate::replay;
-use crate::{examples_receiver, examples_report, examples_wire};
+use crate::{examples_receiver, examples_report, examples_tracker, examples_wire};
 
 pub fn run() -> Result<(), String> {
     let mut examples = Examples::default();
     examples_wire::check(&mut examples);
     examples_receiver::check(&mut examples);
     examples_report::check(&mut examples);
+    examples_tracker::check(&mut examples);
     replays(&mut examples);
     match examples.different {
         0 => Ok(()),

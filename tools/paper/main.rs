@@ -19,17 +19,22 @@ mod compare_receiver;
 mod compare_replay;
 #[cfg(archive)]
 mod compare_report;
+#[cfg(archive)]
+mod compare_tracker;
 mod compare_week;
 mod example_lines;
 mod examples;
 mod examples_receiver;
 mod examples_report;
+mod examples_tracker;
 mod examples_wire;
 mod frames;
 #[cfg(archive)]
 mod made_up;
 #[cfg(archive)]
 mod made_up_bytes;
+#[cfg(archive)]
+mod made_up_tracker;
 mod numbers;
 mod random;
 mod receiver;
@@ -40,6 +45,7 @@ mod report;
 #[cfg(archive)]
 mod tally;
 mod traces;
+mod tracker;
 mod week;
 mod weeks;
 

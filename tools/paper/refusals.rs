@@ -32,6 +32,8 @@ pub const BYTES_BEHIND: u64 = 13;
 pub const BELOW_ZERO: u64 = 14;
 /// "Report readers refuse a longer form": "given at the field, before 10 and 11" (document 02, No. 5)
 pub const LONGER_FORM: u64 = 15;
+/// "an object outside the 256" (document 02, No. 4)
+pub const OUTSIDE: u64 = 17;
 /// "k is above A or A is absent" (document 02, No. 12)
 pub const NOT_ACKNOWLEDGED: u64 = 19;
 /// Document 02, No. 13: "a report longer than 8,192 bytes, which is skipped"

@@ -7,7 +7,7 @@ use std::collections::BTreeMap;
 use std::fmt::Debug;
 
 /// Each call with every result that it can give.
-const CAN_GIVE: [(&str, &[u64]); 18] = [
+const CAN_GIVE: [(&str, &[u64]); 22] = [
     ("open", &[0, 5, 4]),
     ("packet", &[0, 1, 5, 6, 7]),
     ("timer", &[0, 1, 5]),
@@ -26,10 +26,14 @@ const CAN_GIVE: [(&str, &[u64]); 18] = [
     ("find_entries", &[0]),
     ("read_entry", &[0, 2, 12]),
     ("write_report", &[0, 5, 11, 10, 12, 9]),
+    ("tracker_open", &[0, 5]),
+    ("tracker_arrived", &[0, 1, 5, 17]),
+    ("tracker_ended_early", &[0, 1, 5, 17]),
+    ("tracker_report", &[0, 1, 5, 9]),
 ];
 
 /// What must have happened in accepted and refused calls beyond their results.
-const MOMENTS: [&str; 19] = [
+const MOMENTS: [&str; 42] = [
     "1 for nothing but a floor above L",
     "1 for nothing but a floor while nothing was received",
     "7 though it was received and lies within 1,024 of L",
@@ -49,6 +53,29 @@ const MOMENTS: [&str; 19] = [
     "15 at the entry count, before 10",
     "2 where a longer form is cut",
     "an accepted frame with a longer field",
+    "1 for nothing but the last of the 256",
+    "1 for nothing but the interval",
+    "1 where no first arrival is named though one arrived",
+    "1 where the first arrival named is beyond the 256",
+    "1 where the first arrival named did not arrive",
+    "an arrival at its deadline",
+    "an arrival one past its deadline",
+    "an arrival after an early end",
+    "an arrival after a loss",
+    "a second arrival",
+    "5 where 17 would be next",
+    "a second early end",
+    "an early end after an arrival",
+    "a report at exactly twice the interval, which has more one later",
+    "a report of all 256",
+    "a report without entries",
+    "an average below zero",
+    "an average above zero",
+    "5 for the average alone",
+    "a report at every room",
+    "9 for one byte less than the whole",
+    "an age that stopped at the largest",
+    "an age of 0 for an object that arrived",
 ];
 
 /// How often each call gave each result, each receiver call left each cause, and each moment came.
@@ -99,12 +126,12 @@ impl Tally {
         for (name, _) in CAN_GIVE {
             let given = self.results.iter().filter(|((call, _), _)| *call == name);
             let counts: Vec<String> = given.map(|((_, result), count)| format!("{result}: {count}")).collect();
-            println!("{name:>16}  {}", counts.join(", "));
+            println!("{name:>20}  {}", counts.join(", "));
         }
         let counts: Vec<String> = self.causes.iter().map(|(cause, count)| format!("{cause}: {count}")).collect();
-        println!("{:>16}  {}", "cause after", counts.join(", "));
+        println!("{:>20}  {}", "cause after", counts.join(", "));
         for (moment, count) in &self.moments {
-            println!("{count:>16}  {moment}");
+            println!("{count:>20}  {moment}");
         }
     }
 

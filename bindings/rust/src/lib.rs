@@ -5,7 +5,7 @@
 //!
 //! A host names this folder in its Cargo.toml: `lumbixet = { path = ".." }`. The archive is sought in the folder that
 //! LUMBIXET_LIB_DIR names; where it names none, in this checkout (`make archive`), then where pkg-config finds one.
-//! docs/DRIVING.md shows the order of calls.
+//! docs/DRIVING.md shows the order of calls, docs/TRACKING.md that of the tracker.
 //!
 //! ```
 //! use lumbixet::{Cause, Micros, Millis, Packet, Receiver, ACK_ROOM};
@@ -32,11 +32,13 @@ pub mod raw;
 mod receiver;
 mod refusal;
 mod report;
+mod tracker;
 
 pub use frames::{read_number, write_number, Ack, Frequency, Immediate};
 pub use receiver::{Heard, Packet, Receiver};
 pub use refusal::{Cause, Refusal};
 pub use report::{Entries, Entry, Header, Metrics, Report, Status, Written};
+pub use tracker::{Made, Tracker, TRACKED};
 
 /// Microseconds: times, the minimum delay, and the delay in force.
 #[derive(Clone, Copy, Debug, Default, PartialEq, Eq, PartialOrd, Ord, Hash)]

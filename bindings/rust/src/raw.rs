@@ -171,6 +171,17 @@ pub struct Written {
     pub kept: u64,
 }
 
+/// `lumbixet_tracker`: what became of 256 objects. Every bit pattern of it has a meaning.
+#[repr(C)]
+#[derive(Clone, Copy, Debug, PartialEq, Eq)]
+#[allow(missing_docs)]
+pub struct Tracker {
+    pub first: u64,
+    pub interval: u64,
+    pub named: u64,
+    pub objects: [u64; 256],
+}
+
 #[link(name = "lumbixet", kind = "static")]
 #[allow(missing_docs)]
 extern "C" {
@@ -205,4 +216,14 @@ extern "C" {
         records: *const u8,
         records_length: usize,
     ) -> Written;
+    pub fn lumbixet_tracker_open(tracker: *mut Tracker, first: u64, interval_us: u64) -> u64;
+    pub fn lumbixet_tracker_arrived(tracker: *mut Tracker, object: u64, time_us: u64, deadline: u64) -> u64;
+    pub fn lumbixet_tracker_ended_early(tracker: *mut Tracker, object: u64, time_us: u64) -> u64;
+    pub fn lumbixet_tracker_report(
+        tracker: *const Tracker,
+        time_us: u64,
+        interval_us: u64,
+        entries: *mut u8,
+        length: usize,
+    ) -> Report;
 }

@@ -36,6 +36,8 @@ pub enum Refusal {
     BelowZero,
     /// 15: a report's number is not in its shortest form.
     LongerForm,
+    /// 17: the object is none of the 256 that are tracked.
+    Outside,
     /// 19: the confirmed number is above the largest acknowledged, or none is acknowledged.
     NotAcknowledged,
     /// A number that this version does not name; the archive that goes with it gives none.
@@ -45,7 +47,7 @@ pub enum Refusal {
 use Refusal::*;
 
 /// Each with its number and its words.
-const REFUSALS: [(u64, Refusal, &str); 16] = [
+const REFUSALS: [(u64, Refusal, &str); 17] = [
     (1, Inconsistent, "the record is not consistent"),
     (2, Ends, "the bytes end inside a field"),
     (3, OtherType, "the frame type is another one"),
@@ -61,6 +63,7 @@ const REFUSALS: [(u64, Refusal, &str); 16] = [
     (13, BytesBehind, "bytes remain after the report"),
     (14, BelowZero, "a range goes below number 0"),
     (15, LongerForm, "a number is not in its shortest form"),
+    (17, Outside, "the object is none of those tracked"),
     (19, NotAcknowledged, "this number was not acknowledged yet"),
 ];
 

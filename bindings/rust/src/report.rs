@@ -71,7 +71,7 @@ impl Header {
         header
     }
 
-    fn from_raw(header: &raw::Header) -> Header {
+    pub(crate) fn from_raw(header: &raw::Header) -> Header {
         let raw::Header { timestamp, interval, total, received, late, lost, average, .. } = *header;
         let value = |kind| {
             let given = header.kinds.iter().zip(&header.values).take(header.metrics as usize);

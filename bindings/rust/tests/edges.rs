@@ -3,7 +3,11 @@
 use lumbixet::*;
 
 /// What hosts in C read.
-const HEADERS: &str = concat!(include_str!("../../../include/lumbixet.h"), include_str!("../../../include/lumbixet_text.h"));
+const HEADERS: &str = concat!(
+    include_str!("../../../include/lumbixet.h"),
+    include_str!("../../../include/lumbixet_text.h"),
+    include_str!("../../../include/lumbixet_tracker.h")
+);
 
 /// An empty slice is served like any other.
 #[test]
@@ -42,7 +46,7 @@ fn numbers_and_rest() {
 /// Each number has a name, and the name its number; words and numbers are those of the C header.
 #[test]
 fn names_are_the_headers() {
-    for number in (1..16).chain([19]) {
+    for number in (1..16).chain([17, 19]) {
         let refusal = Refusal::from_number(number);
         assert_eq!(refusal.number(), number);
         assert!(HEADERS.contains(&format!("\"{refusal}\"")), "the header has other words than: {refusal}");
@@ -60,6 +64,8 @@ fn names_are_the_headers() {
         format!("#define LUMBIXET_ACK_ROOM {ACK_ROOM}"),
         format!("#define LUMBIXET_FREQUENCY_ROOM {FREQUENCY_ROOM}"),
         format!("#define LUMBIXET_REPORT_ROOM {REPORT_ROOM}"),
+        format!("#define LUMBIXET_TRACKED {TRACKED}\n"),
+        format!("#define LUMBIXET_TRACKER_ROOM {}\n", 16 * TRACKED),
     ] {
         assert!(HEADERS.contains(&line), "the header does not say: {line}");
     }

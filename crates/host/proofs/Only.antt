@@ -39,6 +39,14 @@ use Rattle.host.proofs.reports.lumbixet_read_entry.Reads as read-entry
 use Rattle.host.proofs.reports.lumbixet_read_entry.Kinds as read-entry-kinds
 use Rattle.host.proofs.reports.lumbixet_write_report.Reads as write-report
 use Rattle.host.proofs.reports.lumbixet_write_report.Kinds as write-report-kinds
+use Rattle.host.proofs.tracked.lumbixet_tracker_open.Reads as tracker-open
+use Rattle.host.proofs.tracked.lumbixet_tracker_open.Kinds as tracker-open-kinds
+use Rattle.host.proofs.tracked.lumbixet_tracker_arrived.Reads as tracker-arrived
+use Rattle.host.proofs.tracked.lumbixet_tracker_arrived.Kinds as tracker-arrived-kinds
+use Rattle.host.proofs.tracked.lumbixet_tracker_ended_early.Reads as tracker-ended-early
+use Rattle.host.proofs.tracked.lumbixet_tracker_ended_early.Kinds as tracker-ended-early-kinds
+use Rattle.host.proofs.tracked.lumbixet_tracker_report.Reads as tracker-report
+use Rattle.host.proofs.tracked.lumbixet_tracker_report.Kinds as tracker-report-kinds
 
 pub read-number-one : OneAnswer 1 read-number-kinds.ps read-number-kinds.r read-number.Post
 read-number-one κs given x y s t p q = p ∙ sym q
@@ -93,3 +101,15 @@ read-entry-one κs given x y s t p q = p ∙ sym q
 
 pub write-report-one : OneBuffer 2 write-report-kinds.ps write-report-kinds.r (λ κs s. now (s .0)) write-report.Post
 write-report-one κs given x y s t p q = (p .0 ∙ sym (q .0), p .1 ∙ sym (q .1))
+
+pub tracker-open-one : OneBuffer 1 tracker-open-kinds.ps tracker-open-kinds.r (λ κs s. now (s .0)) tracker-open.Post
+tracker-open-one κs given x y s t p q = (p .0 ∙ sym (q .0), p .1 ∙ sym (q .1))
+
+pub tracker-arrived-one : OneBuffer 1 tracker-arrived-kinds.ps tracker-arrived-kinds.r (λ κs s. now (s .0)) tracker-arrived.Post
+tracker-arrived-one κs given x y s t p q = (p .0 ∙ sym (q .0), p .1 ∙ sym (q .1))
+
+pub tracker-ended-early-one : OneBuffer 1 tracker-ended-early-kinds.ps tracker-ended-early-kinds.r (λ κs s. now (s .0)) tracker-ended-early.Post
+tracker-ended-early-one κs given x y s t p q = (p .0 ∙ sym (q .0), p .1 ∙ sym (q .1))
+
+pub tracker-report-one : OneBuffer 2 tracker-report-kinds.ps tracker-report-kinds.r (λ κs s. now (s .1 .1 .1 .0)) tracker-report.Post
+tracker-report-one κs given x y s t p q = (p .0 ∙ sym (q .0), p .1 ∙ sym (q .1))

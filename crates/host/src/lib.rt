@@ -5,6 +5,7 @@ mod calls;
 mod codec;
 mod numbers;
 mod reports;
+mod tracked;
 
 // A number that was read, the place after it, and 1 where its form was the shortest.
 #[repr(C)]

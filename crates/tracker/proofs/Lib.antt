@@ -1,0 +1,14 @@
+pub mod Tests
+pub mod Arrivals
+pub mod Judging
+pub mod Walks
+pub mod Signed
+pub mod Storing
+pub mod Losses
+pub mod Counted
+pub mod Averages
+pub mod Deviations
+pub mod Gaps
+pub mod Reported
+pub mod Exactly
+pub mod Only

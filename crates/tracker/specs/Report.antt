@@ -1,0 +1,84 @@
+-- The summary and the entries for a given time and report interval.
+use Prim.Native.Nat.{ℕ, zero, suc, _+_, _*_}
+use mathlib.Core.Bool.{Bool}
+use mathlib.Core.List.{List}
+use lib.Dec.{eqb, leb, ltb}
+use lib.IntN.{ℤ}
+use lib.ListN.{length}
+use Rattle.wire.specs.Bytes.{pick, splice}
+use Rattle.wire.specs.Numbers.{limit}
+use Rattle.entries.specs.Limits.{recordSize}
+use Rattle.report.specs.Average.{storedOf}
+use Rattle.report.specs.Header.{each, emptyHeader}
+use Rattle.report.specs.Limits.{mostMetrics}
+use Rattle.report.specs.declared.Header.{Header}
+use Rattle.report.specs.declared.Report.{Report}
+use Rattle.tracker.specs.Record.{mostObjects, intervalOf, bothObey, consistent}
+use Rattle.tracker.specs.Status.{statusAt, noStatus, entriesFrom, howMany}
+use Rattle.tracker.specs.Average.{arrivalTimes, averageFrom}
+
+-- how many objects have the status
+abbrev pub withStatus : List ℕ → ℕ → ℕ → ℕ
+withStatus r time status = howMany (λ place. eqb (statusAt r time place) status) mostObjects 0
+
+-- "over all objects with a status"
+abbrev pub totalOf : List ℕ → ℕ → ℕ
+totalOf r time = howMany (λ place. ltb (statusAt r time place) noStatus) mostObjects 0
+
+-- "The average is over arrived objects, late ones included"
+abbrev pub averageAt : List ℕ → ℤ
+averageAt r = averageFrom (intervalOf r) (arrivalTimes r mostObjects 0)
+
+-- a header with no metrics, and an entry for each object that it counts
+abbrev pub headerOf : ℕ → ℕ → ℕ → ℕ → ℕ → ℕ → ℤ → Header
+headerOf time interval total received late lost average = record {
+  timestamp = time;
+  interval = interval;
+  total = total;
+  received = received;
+  late = late;
+  lost = lost;
+  average = average;
+  metrics = 0;
+  kinds = each mostMetrics 0 (λ i. 0);
+  values = each mostMetrics 0 (λ i. 0);
+  entries = total;
+}
+
+-- the summary: lost are those not received and those received in part (003)
+unfoldable pub summaryOf : List ℕ → ℕ → ℕ → Header
+summaryOf r time interval =
+    headerOf time interval (totalOf r time) (withStatus r time 0) (withStatus r time 1) (withStatus r time 2 + withStatus r time 3) (averageAt r)
+
+-- the entries, in the order of their objects
+abbrev pub entriesAt : List ℕ → ℕ → List ℕ
+entriesAt r time = entriesFrom (statusAt r time) r time mostObjects 0
+
+-- "when entries and summary are made, 5 for an average outside the signed range, then 9"
+abbrev pub averageFits : List ℕ → Bool
+averageFits r = leb (storedOf (averageAt r)) limit
+
+unfoldable pub reportRefusal : List ℕ → ℕ → ℕ → ℕ → ℕ
+reportRefusal r time interval room =
+    pick (consistent r)
+    (pick (bothObey time interval)
+    (pick (averageFits r)
+    (pick (leb (recordSize * totalOf r time) room) 0 9)
+    5)
+    5)
+    1
+
+-- a refusal has the empty header and writes nothing
+abbrev pub reportedAs : ℕ → Header → Report
+reportedAs zero header = record { refusal = 0; header = header }
+reportedAs (suc n) header = record { refusal = suc n; header = emptyHeader }
+
+unfoldable pub reportAnswer : List ℕ → ℕ → ℕ → ℕ → Report
+reportAnswer r time interval room = reportedAs (reportRefusal r time interval room) (summaryOf r time interval)
+
+abbrev pub storedUnless : ℕ → List ℕ → List ℕ → List ℕ
+storedUnless zero entries xs = splice xs 0 entries
+storedUnless (suc n) entries xs = xs
+
+unfoldable pub reportBytes : List ℕ → ℕ → ℕ → List ℕ → List ℕ
+reportBytes r time interval xs = storedUnless (reportRefusal r time interval (length xs)) (entriesAt r time) xs
