@@ -96,6 +96,8 @@ host: archive
 	@echo
 	@$(CC) $(CFLAGS) tools/check-header.c $(ARCHIVE) -o target/host/check-header
 	@target/host/check-header
+	@$(CC) $(CFLAGS) tools/check-report.c $(ARCHIVE) -o target/host/check-report
+	@target/host/check-report
 	@$(CC) $(CFLAGS) tools/check-room.c $(ARCHIVE) -o target/host/check-room
 	@target/host/check-room
 	@$(CC) $(CFLAGS) tools/check-tracker.c $(ARCHIVE) -o target/host/check-tracker

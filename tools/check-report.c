@@ -1,0 +1,79 @@
+/* Holds include/lumbixet_report.h to the archive, as tools/check-header.c does the rest. `make host` builds and runs it. */
+#include "same.h"
+
+SIZE(lumbixet_header, 136);
+SIZE(lumbixet_report, 144);
+SIZE(lumbixet_entries, 16);
+SIZE(lumbixet_entry, 32);
+SIZE(lumbixet_written, 24);
+
+/* No byte between two fields: answers can be compared by their bytes. */
+SIZE(lumbixet_header, (9 + 4 + 4) * 8);
+SIZE(lumbixet_report, 8 + sizeof(lumbixet_header));
+
+AT(lumbixet_header, average, 48);
+AT(lumbixet_header, kinds, 64);
+AT(lumbixet_header, values, 96);
+AT(lumbixet_header, entries, 128);
+AT(lumbixet_report, header, 8);
+
+static void reports(void)
+{
+    static const uint8_t expected[] = {
+        0x43, 0xe9, 0x43, 0xea, 60, 10, 20, 30, 13, 4, 0x02, 51, 0x04, 52, 0x10, 53, 0x12, 54, 4,
+        0, 0, 0, 0, 0, 0, 0, 7, 0, 0, 0, 0, 0, 0, 0, 9,
+        0, 0, 0, 0, 0, 0, 0, 8, 1, 0, 0, 0, 0, 0, 1, 0,
+        0, 0, 0, 0, 0, 0, 0, 9, 2, 0, 0, 0, 0, 0, 0, 0,
+        0, 0, 0, 0, 0, 0, 0, 10, 3, 0, 0, 0, 0, 0, 0, 9,
+    };
+    const uint8_t *records = expected + 19;
+    lumbixet_header header = {
+        .timestamp = 1001, .interval = 1002, .total = 60, .received = 10, .late = 20, .lost = 30, .average = -7,
+        .metrics = 4, .kinds = {0x02, 0x04, 0x10, 0x12}, .values = {51, 52, 53, 54}, .entries = 99,
+    };
+    uint8_t buffer[sizeof expected];
+    lumbixet_written written = lumbixet_write_report(buffer, sizeof buffer, header, records, 64);
+    SAME(written.result, LUMBIXET_ACCEPTED);
+    SAME(written.next, 83);
+    SAME(written.kept, 4);
+    same_bytes("those of the report", buffer, expected, sizeof expected);
+
+    lumbixet_report report = lumbixet_read_report(expected, sizeof expected);
+    header.entries = 4;
+    SAME(report.result, LUMBIXET_ACCEPTED);
+    same_bytes("those of the header", &report.header, &header, sizeof header);
+    lumbixet_entries part = lumbixet_find_entries(expected, sizeof expected);
+    SAME(part.start, 19);
+    SAME(part.length, 64);
+    lumbixet_entry entry = lumbixet_read_entry(expected + part.start, part.length, 1);
+    SAME(entry.result, LUMBIXET_ACCEPTED);
+    SAME(entry.object, 8);
+    SAME(entry.status, LUMBIXET_LATE);
+    SAME(entry.age, 256);
+    SAME(lumbixet_read_entry(records, 64, 0).status, LUMBIXET_RECEIVED);
+    SAME(lumbixet_read_entry(records, 64, 2).status, LUMBIXET_NOT_RECEIVED);
+    SAME(lumbixet_read_entry(records, 64, 3).status, LUMBIXET_PARTIAL);
+    SAME(lumbixet_read_entry(records, 64, 4).result, LUMBIXET_ENDS);
+
+    SAME(lumbixet_read_report(expected, sizeof expected - 1).result, LUMBIXET_ENDS);
+    SAME(lumbixet_find_entries(expected, sizeof expected - 1).start, 82);
+    static const uint8_t long_average[] = {0, 0, 0, 0, 0, 0, 0x40, 0, 0, 0};
+    SAME(lumbixet_read_report(long_average, sizeof long_average).result, LUMBIXET_LONGER_FORM);
+    SAME(lumbixet_write_report(buffer, sizeof buffer, header, records, 63).result, LUMBIXET_ENTRY);
+    header.metrics = 5;
+    SAME(lumbixet_write_report(buffer, sizeof buffer, header, records, 64).result, LUMBIXET_COUNT_OR_TYPE);
+    header.lost = 31;
+    SAME(lumbixet_write_report(buffer, sizeof buffer, header, records, 64).result, LUMBIXET_SUM);
+    static const uint8_t behind[] = {0x80, 0x0f, 0x42, 0x40, 0x80, 0x01, 0x86, 0xa0, 3, 1, 1, 1, 3, 0, 0, 0};
+    SAME(lumbixet_read_report(behind, sizeof behind).result, LUMBIXET_BYTES_BEHIND);
+    static const uint8_t longer[] = {0, 0, 0, 0, 0, 0, 0, 0, 0x40, 0};
+    SAME(lumbixet_read_report(longer, sizeof longer).result, LUMBIXET_LONGER_FORM);
+}
+
+int main(void)
+{
+    reports();
+    if (faults == 0)
+        printf("report: %d values of the archive are as include/lumbixet_report.h says\n", seen);
+    return faults != 0;
+}
