@@ -63,6 +63,13 @@ void any_numbers(uint64_t *list, size_t length)
         list[i] = any_number();
 }
 
+uint64_t any_mark(uint64_t once_ce)
+{
+    uint64_t ecn = below(once_ce) ? below(LUMBIXET_ECN_CE) : LUMBIXET_ECN_CE;
+    uint64_t above = below(256);
+    return above < 64 ? 4 * above + ecn : ecn;
+}
+
 void fill_buffers(void)
 {
     memset(left, 0xa5, sizeof left);

@@ -19,6 +19,9 @@ uint64_t below(uint64_t limit);
 uint64_t any_number(void);
 void any_numbers(uint64_t *list, size_t length);
 
+/* An ECN field: CE once in so many, else another mark; now and then with a traffic class above it. */
+uint64_t any_mark(uint64_t once_ce);
+
 /* A buffer for each side, both filled alike, so that a byte that one side should not write is seen. */
 extern uint8_t left[2048], right[2048];
 void fill_buffers(void);

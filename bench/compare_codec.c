@@ -104,21 +104,21 @@ static void compare_timed_frames(void)
 /* Any bytes behind each of the frame types, and ACK frames of small numbers, which often end at number 0 or below. */
 static void compare_made_up_frames(void)
 {
-    static const uint8_t starts[4] = {0x02, 0x40, 0x1f, 0x80};
+    static const uint8_t starts[5] = {0x02, 0x03, 0x40, 0x1f, 0x80};
     for (size_t i = 0; i < MADE_UP; i++) {
-        uint8_t bytes[32], small[8];
+        uint8_t bytes[32], small[11];
         for (size_t k = 0; k < sizeof bytes; k++)
             bytes[k] = (uint8_t)draw();
-        bytes[0] = starts[below(4)];
+        bytes[0] = starts[below(5)];
         if (below(2))
             bytes[1] = 0xaf;
         compare_read_frames(bytes, below(33));
         compare_put_frames(below(40));
         for (size_t k = 0; k < sizeof small; k++)
             small[k] = (uint8_t)below(4);
-        small[0] = 2;
+        small[0] = (uint8_t)(2 + below(2));
         small[1] = (uint8_t)below(10);
-        size_t length = below(9);
+        size_t length = below(12);
         compare_read_ack(small, length, below(9));
     }
 }

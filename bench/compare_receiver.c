@@ -10,10 +10,10 @@
 enum { SEQUENCES = 2000, CALLS = 200, LISTS = 50 };
 
 static lumbixet_answer compare_packet(const lumbixet_receiver *r, uint64_t number, uint64_t time, bool eliciting,
-                                      bool marked)
+                                      uint64_t ecn)
 {
-    lumbixet_answer a = archive.packet(*r, number, time, eliciting, marked);
-    lumbixet_answer b = plain.packet(*r, number, time, eliciting, marked);
+    lumbixet_answer a = archive.packet(*r, number, time, eliciting, ecn);
+    lumbixet_answer b = plain.packet(*r, number, time, eliciting, ecn);
     check_answer(&a, &b, "packet");
     return a;
 }
@@ -60,20 +60,27 @@ static lumbixet_answer compare_threshold(const lumbixet_receiver *r, uint64_t se
     return a;
 }
 
-static lumbixet_answer compare_write(const lumbixet_receiver *r, uint64_t time, size_t room)
+static lumbixet_answer compare_write_as(const lumbixet_receiver *r, uint64_t time, bool counts, size_t room)
 {
     fill_buffers();
-    lumbixet_wrote a = archive.write(*r, time, left, room);
-    lumbixet_wrote b = plain.write(*r, time, right, room);
+    lumbixet_wrote a = archive.write(*r, time, counts, left, room);
+    lumbixet_wrote b = plain.write(*r, time, counts, right, room);
     check(a.result == b.result && a.length == b.length && same_record(&a.next, &b.next) && same_buffers(), "write");
     return (lumbixet_answer){a.result, a.next};
+}
+
+/* As type 03, then as type 02, whose answer it gives. */
+static lumbixet_answer compare_write(const lumbixet_receiver *r, uint64_t time, size_t room)
+{
+    compare_write_as(r, time, true, room);
+    return compare_write_as(r, time, false, room);
 }
 
 static void compare_traffic(const struct traffic *t)
 {
     lumbixet_receiver record = t->start;
     for (size_t k = WARM; k < WARM + PACKETS; k++) {
-        record = compare_packet(&record, t->numbers[k], arrival(k), true, false).next;
+        record = compare_packet(&record, t->numbers[k], arrival(k), true, LUMBIXET_ECN_ECT0).next;
         if (k % BLOCK == BLOCK - 1)
             record = compare_write(&record, arrival(k), FRAME_ROOM).next;
     }
@@ -97,7 +104,8 @@ static void compare_sitting(void)
     uint64_t number = 0;
     lumbixet_receiver record = archive.open(1000, 3, 25, 1000).next;
     for (size_t k = 0; k < SITTING; k++) {
-        record = compare_packet(&record, next_arrival(&state, &number), sitting_arrival(k), true, false).next;
+        uint64_t arrived = next_arrival(&state, &number);
+        record = compare_packet(&record, arrived, sitting_arrival(k), true, LUMBIXET_ECN_ECT0).next;
         if (k % BLOCK < BLOCK - 1)
             continue;
         record = compare_confirm(&record, record.acknowledged - 1).next;
@@ -105,13 +113,13 @@ static void compare_sitting(void)
     }
 }
 
-/* A packet that is not ack-eliciting once in so many, and that is marked once in so many. */
+/* A packet that is not ack-eliciting once in so many, and that has CE once in so many. */
 static lumbixet_answer compare_some_packet(const lumbixet_receiver *r, uint64_t number, uint64_t time,
-                                           uint64_t once_not_eliciting, uint64_t once_marked)
+                                           uint64_t once_not_eliciting, uint64_t once_ce)
 {
     bool eliciting = below(once_not_eliciting) != 0;
-    bool marked = below(once_marked) == 0;
-    return compare_packet(r, number, time, eliciting, marked);
+    uint64_t ecn = any_mark(once_ce);
+    return compare_packet(r, number, time, eliciting, ecn);
 }
 
 /* A threshold call near the record's own sequence and minimum. */
@@ -264,7 +272,7 @@ static void compare_made_up_highest(void)
         for (uint64_t down = 1; down < 1024; down++) {
             record.highest = record.end - down;
             for (uint64_t number = record.highest - 2; number <= record.highest; number++)
-                compare_packet(&record, number, record.arrived, true, false);
+                compare_packet(&record, number, record.arrived, true, LUMBIXET_ECN_NONE);
         }
     }
 }

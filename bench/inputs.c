@@ -46,7 +46,7 @@ static void make_numbers(void)
 
 static void make_frame(struct acks *made, size_t v, uint64_t ranges)
 {
-    lumbixet_wrote wrote = plain_write(made->records[v], made->time, made->frames[v], FRAME_ROOM);
+    lumbixet_wrote wrote = plain_write(made->records[v], made->time, made->counts, made->frames[v], FRAME_ROOM);
     made->lengths[v] = wrote.length;
     uint64_t pairs[128];
     expect(wrote.result == 0, "an ACK frame");
@@ -67,7 +67,7 @@ static void make_acks(struct acks *made, uint64_t ranges, uint64_t seed)
             if (n % part == 0)
                 gap = 1 + pick(&state) % 3;
             if (n % part >= gap)
-                record = plain_packet(record, 1000000 * 1024 + n, arrival(n), true, false).next;
+                record = plain_packet(record, 1000000 * 1024 + n, arrival(n), true, LUMBIXET_ECN_ECT0).next;
         }
         made->records[v] = record;
         make_frame(made, v, ranges);
@@ -84,8 +84,8 @@ static lumbixet_receiver sit(uint64_t seed, bool confirming)
     for (size_t k = 0; k < SITTING; k++) {
         uint64_t time = sitting_arrival(k);
         if (k && k % BLOCK == 0)
-            record = plain_write(record, time, frame, sizeof frame).next;
-        lumbixet_answer answer = plain_packet(record, next_arrival(&state, &number), time, true, false);
+            record = plain_write(record, time, false, frame, sizeof frame).next;
+        lumbixet_answer answer = plain_packet(record, next_arrival(&state, &number), time, true, LUMBIXET_ECN_ECT0);
         expect(answer.result == 0, "a packet of a sitting");
         record = answer.next;
         if (confirming && k > BLOCK && k % BLOCK == BLOCK - 1)
@@ -126,11 +126,11 @@ static void make_traffic(struct traffic *made, int pattern, uint64_t reordering)
     lumbixet_receiver record = plain_open(1000, reordering, 25, 1000).next;
     uint8_t frame[FRAME_ROOM];
     for (size_t k = 0; k < WARM; k++) {
-        lumbixet_answer answer = plain_packet(record, made->numbers[k], arrival(k), true, false);
+        lumbixet_answer answer = plain_packet(record, made->numbers[k], arrival(k), true, LUMBIXET_ECN_ECT0);
         expect(answer.result == 0, "a packet");
         record = answer.next;
         if (k % BLOCK == BLOCK - 1)
-            record = plain_write(record, arrival(k), frame, sizeof frame).next;
+            record = plain_write(record, arrival(k), false, frame, sizeof frame).next;
     }
     made->start = record;
 }
@@ -186,6 +186,8 @@ void make_inputs(void)
     make_acks(&acks[ONE_RANGE], 1, 5);
     make_acks(&acks[EIGHT_RANGES], 8, 6);
     make_acks(&acks[SIXTY_FOUR_RANGES], 64, 7);
+    acks[COUNTED].counts = true;
+    make_acks(&acks[COUNTED], 8, 6);
     make_sittings(&acks[SITTINGS], false);
     make_sittings(&acks[CONFIRMED], true);
     for (int pattern = 0; pattern < PATTERNS; pattern++) {

@@ -29,6 +29,7 @@ struct numbers {
 struct acks {
     lumbixet_receiver records[VARIANTS];
     uint64_t time;
+    bool counts; /* of type 03 */
     uint8_t frames[VARIANTS][FRAME_ROOM];
     size_t lengths[VARIANTS];
 };
@@ -47,8 +48,9 @@ struct reports {
     size_t lengths[VARIANTS];
 };
 
-/* The last two are the ends of sittings with 2 % loss; in CONFIRMED each ACK was confirmed before the next one. */
-enum { ONE_RANGE, EIGHT_RANGES, SIXTY_FOUR_RANGES, SITTINGS, CONFIRMED, ACK_KINDS };
+/* COUNTED is EIGHT_RANGES as type 03. The last two are the ends of sittings with 2 % loss; in CONFIRMED each ACK was
+ * confirmed before the next one. */
+enum { ONE_RANGE, EIGHT_RANGES, SIXTY_FOUR_RANGES, COUNTED, SITTINGS, CONFIRMED, ACK_KINDS };
 enum { IN_ORDER, LOSS, SWAPPED, PATTERNS };
 
 extern struct numbers numbers;

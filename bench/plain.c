@@ -22,15 +22,20 @@ lumbixet_put plain_put_number(uint8_t *buffer, size_t length, size_t at, uint64_
 
 /* ---- frames */
 
-/* Reads a frame type: 2 where it is cut, 3 where it is another one or not in shortest form. */
+/* Reads a frame type, which is either of two: 2 where it is cut, 3 where it is another one or not in shortest form. */
+static uint64_t take_either(struct reader *reader, uint64_t one, uint64_t other, uint64_t *found)
+{
+    if (!take(reader, found))
+        return LUMBIXET_ENDS;
+    if ((*found != one && *found != other) || reader->at != width(*found))
+        return LUMBIXET_OTHER_TYPE;
+    return LUMBIXET_ACCEPTED;
+}
+
 static uint64_t take_type(struct reader *reader, uint64_t type)
 {
     uint64_t found;
-    if (!take(reader, &found))
-        return LUMBIXET_ENDS;
-    if (found != type || reader->at != width(type))
-        return LUMBIXET_OTHER_TYPE;
-    return LUMBIXET_ACCEPTED;
+    return take_either(reader, type, type, &found);
 }
 
 lumbixet_frequency plain_read_frequency(const uint8_t *bytes, size_t length)
@@ -89,20 +94,23 @@ static void fill_ranges(const uint8_t *p, uint64_t largest, uint64_t count, uint
 lumbixet_ack plain_read_ack(const uint8_t *bytes, size_t length, uint64_t *ranges, size_t room)
 {
     struct reader reader = {bytes, length, 0};
-    uint64_t result = take_type(&reader, 0x02);
+    uint64_t type, largest, delay, count;
+    uint64_t result = take_either(&reader, ACK, ACK_WITH_COUNTS, &type);
     if (result)
         return (lumbixet_ack){.result = result};
-    uint64_t largest, delay, count;
     if (!take(&reader, &largest) || !take(&reader, &delay) || !take(&reader, &count))
         return (lumbixet_ack){.result = LUMBIXET_ENDS};
     size_t start = reader.at;
     result = check_ranges(&reader, largest, count);
     if (result)
         return (lumbixet_ack){.result = result};
+    uint64_t counted = type == ACK_WITH_COUNTS, ect0 = 0, ect1 = 0, ce = 0;
+    if (counted && (!take(&reader, &ect0) || !take(&reader, &ect1) || !take(&reader, &ce)))
+        return (lumbixet_ack){.result = LUMBIXET_ENDS};
     if (room / 2 <= count)
         return (lumbixet_ack){.result = LUMBIXET_NO_ROOM};
     fill_ranges(bytes + start, largest, count, ranges);
-    return (lumbixet_ack){LUMBIXET_ACCEPTED, largest, delay, count + 1, reader.at};
+    return (lumbixet_ack){LUMBIXET_ACCEPTED, largest, delay, count + 1, reader.at, counted, ect0, ect1, ce};
 }
 
 lumbixet_put plain_put_frequency(uint8_t *buffer, size_t length, uint64_t sequence, uint64_t threshold, uint64_t delay,

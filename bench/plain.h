@@ -16,13 +16,13 @@ lumbixet_put plain_put_immediate(uint8_t *buffer, size_t length);
 
 lumbixet_answer plain_open(uint64_t threshold, uint64_t reordering, uint64_t maximum_ms, uint64_t minimum_us);
 lumbixet_answer plain_packet(lumbixet_receiver receiver, uint64_t number, uint64_t time_us, bool eliciting,
-                             bool marked);
+                             uint64_t ecn);
 lumbixet_answer plain_timer(lumbixet_receiver receiver, uint64_t time_us);
 lumbixet_answer plain_threshold(lumbixet_receiver receiver, uint64_t sequence, uint64_t threshold, uint64_t delay_us,
                                 uint64_t reordering);
 lumbixet_answer plain_immediate(lumbixet_receiver receiver);
 lumbixet_answer plain_confirm(lumbixet_receiver receiver, uint64_t largest);
-lumbixet_wrote plain_write(lumbixet_receiver receiver, uint64_t time_us, uint8_t *buffer, size_t length);
+lumbixet_wrote plain_write(lumbixet_receiver receiver, uint64_t time_us, bool counts, uint8_t *buffer, size_t length);
 
 lumbixet_report plain_read_report(const uint8_t *bytes, size_t length);
 lumbixet_entries plain_find_entries(const uint8_t *bytes, size_t length);

@@ -8,6 +8,9 @@
 
 #define LARGEST LUMBIXET_LARGEST
 
+/* The two types of ACK frames. */
+enum { ACK = 2, ACK_WITH_COUNTS = 3 };
+
 struct reader {
     const uint8_t *bytes;
     size_t length;

@@ -13,6 +13,8 @@ static inline bool consistent(const lumbixet_receiver *r)
         return false;
     if (r->arrived > LARGEST || r->pending_first > LARGEST || r->threshold > LARGEST || r->reordering > LARGEST)
         return false;
+    if (r->total_ect0 > LARGEST || r->total_ect1 > LARGEST || r->total_ce > LARGEST || r->total_unmarked > LARGEST)
+        return false;
     if (r->maximum >= DELAY_LIMIT_MS || r->minimum > r->maximum * 1000)
         return false;
     if (r->delay >= DELAY_LIMIT_US || r->delay < r->minimum)
@@ -95,12 +97,30 @@ lumbixet_answer plain_open(uint64_t threshold, uint64_t reordering, uint64_t max
                               .minimum = minimum_us}};
 }
 
+/* The total of the mark that an ECN field gives. */
+static inline uint64_t *total_of(lumbixet_receiver *r, uint64_t ecn)
+{
+    switch (ecn % 4) {
+    case LUMBIXET_ECN_ECT1:
+        return &r->total_ect1;
+    case LUMBIXET_ECN_ECT0:
+        return &r->total_ect0;
+    case LUMBIXET_ECN_CE:
+        return &r->total_ce;
+    default:
+        return &r->total_unmarked;
+    }
+}
+
 /* Changes the record in place; a refused packet leaves it as it was. */
-static inline uint64_t take_packet(lumbixet_receiver *r, uint64_t number, uint64_t time_us, bool eliciting, bool marked)
+static inline uint64_t take_packet(lumbixet_receiver *r, uint64_t number, uint64_t time_us, bool eliciting, uint64_t ecn)
 {
     uint64_t refusal = packet_refusal(r, number, time_us);
     if (refusal)
         return refusal;
+    uint64_t *total = total_of(r, ecn);
+    *total += *total < LARGEST;
+    bool marked = ecn % 4 == LUMBIXET_ECN_CE;
     bool congested = marked && (r->sequence == 0 || r->end == 0 || r->ce == 0);
     uint64_t highest = r->highest;
     if (number < r->end) {
@@ -133,9 +153,9 @@ static inline uint64_t take_packet(lumbixet_receiver *r, uint64_t number, uint64
 
 /* The parameter is the call's own copy: it is changed in place and handed back. */
 lumbixet_answer plain_packet(lumbixet_receiver receiver, uint64_t number, uint64_t time_us, bool eliciting,
-                             bool marked)
+                             uint64_t ecn)
 {
-    uint64_t result = take_packet(&receiver, number, time_us, eliciting, marked);
+    uint64_t result = take_packet(&receiver, number, time_us, eliciting, ecn);
     return (lumbixet_answer){result, receiver};
 }
 
@@ -143,9 +163,9 @@ lumbixet_answer plain_packet(lumbixet_receiver receiver, uint64_t number, uint64
 lumbixet_answer plain_stream(lumbixet_receiver receiver, const uint64_t *numbers, size_t length, uint64_t time_us,
                              bool eliciting, bool marked)
 {
-    uint64_t result = LUMBIXET_ACCEPTED;
+    uint64_t result = LUMBIXET_ACCEPTED, ecn = marked ? LUMBIXET_ECN_CE : LUMBIXET_ECN_NONE;
     for (size_t i = 0; i < length && !result; i++)
-        result = take_packet(&receiver, numbers[i], time_us, eliciting, marked);
+        result = take_packet(&receiver, numbers[i], time_us, eliciting, ecn);
     return (lumbixet_answer){result, receiver};
 }
 
@@ -247,8 +267,10 @@ static inline bool collect(const uint64_t *words, uint64_t least, size_t bytes, 
     return true;
 }
 
-lumbixet_wrote plain_write(lumbixet_receiver receiver, uint64_t time_us, uint8_t *buffer, size_t length)
+lumbixet_wrote plain_write(lumbixet_receiver receiver, uint64_t time_us, bool counts, uint8_t *buffer, size_t length)
 {
+    const uint64_t tail[3] = {receiver.total_ect0, receiver.total_ect1, receiver.total_ce};
+    size_t tail_bytes = counts ? width(tail[0]) + width(tail[1]) + width(tail[2]) : 0;
     uint64_t result = LUMBIXET_ACCEPTED;
     uint64_t delay = less(time_us, receiver.arrived) / 8;
     struct ranges ranges;
@@ -259,14 +281,16 @@ lumbixet_wrote plain_write(lumbixet_receiver receiver, uint64_t time_us, uint8_t
     else if (receiver.end == 0)
         result = LUMBIXET_NOTHING_YET;
     else if (!collect(receiver.window, place_of(&receiver, receiver.confirmed),
-                      1 + width(receiver.end - 1) + width(delay), length, &ranges))
+                      1 + width(receiver.end - 1) + width(delay) + tail_bytes, length, &ranges))
         result = LUMBIXET_NO_ROOM;
     if (result)
         return (lumbixet_wrote){result, 0, receiver};
-    uint8_t *p = store(store(store(buffer, 2), receiver.end - 1), delay);
+    uint8_t *p = store(store(store(buffer, counts ? ACK_WITH_COUNTS : ACK), receiver.end - 1), delay);
     p = store(store(p, ranges.count), ranges.first);
     for (uint64_t i = 0; i < 2 * ranges.count; i++)
         p = store(p, ranges.pairs[i]);
+    for (int i = 0; i < (counts ? 3 : 0); i++)
+        p = store(p, tail[i]);
     receiver.acknowledged = receiver.end;
     receiver.pending_end = 0;
     receiver.pending_count = 0;

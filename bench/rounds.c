@@ -64,7 +64,7 @@ double write_acks(const struct side *side, int kind, int round)
     uint64_t sum = 0;
     uint64_t from = now();
     for (size_t i = 0; i < CALLS; i++) {
-        lumbixet_wrote wrote = side->write(a->records[i % VARIANTS], a->time, frame, sizeof frame);
+        lumbixet_wrote wrote = side->write(a->records[i % VARIANTS], a->time, a->counts, frame, sizeof frame);
         sum += wrote.length + frame[wrote.length - 1] + wrote.next.acknowledged;
     }
     uint64_t passed = since(from);
@@ -85,12 +85,12 @@ double take_packets(const struct side *side, int kind, int round)
     for (size_t block = WARM; block < WARM + PACKETS; block += BLOCK) {
         uint64_t from = now();
         for (size_t k = block; k < block + BLOCK; k += 2) {
-            b = side->packet(a.next, t->numbers[k], arrival(k), true, false);
-            a = side->packet(b.next, t->numbers[k + 1], arrival(k + 1), true, false);
+            b = side->packet(a.next, t->numbers[k], arrival(k), true, LUMBIXET_ECN_ECT0);
+            a = side->packet(b.next, t->numbers[k + 1], arrival(k + 1), true, LUMBIXET_ECN_ECT0);
         }
         passed += since(from);
         sink += a.next.cause;
-        a.next = side->write(a.next, arrival(block + BLOCK - 1), frame, sizeof frame).next;
+        a.next = side->write(a.next, arrival(block + BLOCK - 1), false, frame, sizeof frame).next;
     }
     return (double)passed / PACKETS;
 }
@@ -109,7 +109,7 @@ double stream_packets(const struct side *side, int kind, int round)
         a = side->stream(a.next, t->numbers + block, BLOCK, time, true, false);
         passed += since(from);
         sink += a.next.cause;
-        a.next = side->write(a.next, time, frame, sizeof frame).next;
+        a.next = side->write(a.next, time, false, frame, sizeof frame).next;
     }
     return (double)passed / PACKETS;
 }
@@ -120,7 +120,7 @@ double look_at_timer(const struct side *side, int kind, int round)
     (void)kind;
     (void)round;
     const struct traffic *t = &traffic[IN_ORDER][0];
-    _Alignas(64) lumbixet_answer a = plain.packet(t->start, t->numbers[WARM], arrival(WARM), true, false);
+    _Alignas(64) lumbixet_answer a = plain.packet(t->start, t->numbers[WARM], arrival(WARM), true, LUMBIXET_ECN_ECT0);
     _Alignas(64) lumbixet_answer b;
     uint64_t from = now();
     for (size_t i = 0; i < CALLS; i += 2) {

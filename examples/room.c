@@ -54,10 +54,11 @@ static void rules(lumbixet_receiver receiver)
     printf(", or after %" PRIu64 " microseconds.\n", receiver.delay);
 }
 
-static lumbixet_receiver packet(lumbixet_receiver receiver, uint64_t number, uint64_t time, bool marked)
+static lumbixet_receiver packet(lumbixet_receiver receiver, uint64_t number, uint64_t time, uint64_t ecn)
 {
-    printf("At %" PRIu64 " packet %" PRIu64 " arrives%s.", time, number, marked ? " with a congestion mark" : "");
-    return told(lumbixet_packet(receiver, number, time, true, marked));
+    static const char *const marks[] = {"", " marked ECT(1)", " marked ECT(0)", " with a congestion mark"};
+    printf("At %" PRIu64 " packet %" PRIu64 " arrives%s.", time, number, marks[ecn]);
+    return told(lumbixet_packet(receiver, number, time, true, ecn));
 }
 
 static lumbixet_receiver timer(lumbixet_receiver receiver, uint64_t time)
@@ -66,13 +67,13 @@ static lumbixet_receiver timer(lumbixet_receiver receiver, uint64_t time)
     return told(lumbixet_timer(receiver, time));
 }
 
-/* Writes an acknowledgment, and reads it back as the sender will. */
-static lumbixet_receiver acknowledge(lumbixet_receiver receiver, uint64_t time, size_t room)
+/* Writes an acknowledgment, with the counts of marks or without, and reads it back as the sender will. */
+static lumbixet_receiver acknowledge(lumbixet_receiver receiver, uint64_t time, bool counts, size_t room)
 {
     uint8_t buffer[ROOM];
     uint64_t ranges[LUMBIXET_RANGES_ROOM(ROOM)];
-    lumbixet_wrote wrote = lumbixet_write(receiver, time, buffer, room);
-    printf("At %" PRIu64 " an acknowledgment is written into %zu bytes", time, room);
+    lumbixet_wrote wrote = lumbixet_write(receiver, time, counts, buffer, room);
+    printf("At %" PRIu64 " an acknowledgment%s is written into %zu bytes", time, counts ? " with counts" : "", room);
     if (wrote.result != LUMBIXET_ACCEPTED) {
         putchar('.');
         refused(wrote.result);
@@ -86,6 +87,8 @@ static lumbixet_receiver acknowledge(lumbixet_receiver receiver, uint64_t time, 
     for (uint64_t i = 0; i < ack.ranges; i++)
         printf(" %" PRIu64 " to %" PRIu64 " arrived%c", ranges[2 * i], ranges[2 * i + 1], i + 1 < ack.ranges ? ',' : '.');
     putchar('\n');
+    if (ack.counts)
+        printf("  Marked so far: %" PRIu64 " with ECT(0), %" PRIu64 " with ECT(1), %" PRIu64 " with CE.\n", ack.ect0, ack.ect1, ack.ce);
     return wrote.next;
 }
 
@@ -193,47 +196,56 @@ int main(void)
     must(opened.result, "opening");
     lumbixet_receiver receiver = opened.next;
     rules(receiver);
-    receiver = packet(receiver, 0, 1000, false);
-    receiver = packet(receiver, 1, 2000, false);
-    receiver = packet(receiver, 3, 4000, false);
-    receiver = packet(receiver, 4, 5000, false);
-    receiver = packet(receiver, 5, 6000, false);
-    receiver = packet(receiver, 5, 6100, false);
-    receiver = acknowledge(receiver, 6400, ROOM);
+    receiver = packet(receiver, 0, 1000, LUMBIXET_ECN_NONE);
+    receiver = packet(receiver, 1, 2000, LUMBIXET_ECN_NONE);
+    receiver = packet(receiver, 3, 4000, LUMBIXET_ECN_NONE);
+    receiver = packet(receiver, 4, 5000, LUMBIXET_ECN_NONE);
+    receiver = packet(receiver, 5, 6000, LUMBIXET_ECN_NONE);
+    receiver = packet(receiver, 5, 6100, LUMBIXET_ECN_NONE);
+    receiver = acknowledge(receiver, 6400, false, ROOM);
 
     puts("\nThe sender asks for other rules");
     receiver = other_rules(receiver);
 
     puts("\nThe timer runs");
-    receiver = packet(receiver, 6, 20000, false);
+    receiver = packet(receiver, 6, 20000, LUMBIXET_ECN_NONE);
     receiver = timer(receiver, 24999);
     receiver = timer(receiver, 25000);
-    receiver = acknowledge(receiver, 25000, ROOM);
+    receiver = acknowledge(receiver, 25000, false, ROOM);
 
     puts("\nThe lost packet comes after all");
-    receiver = packet(receiver, 2, 26000, false);
-    receiver = packet(receiver, 7, 27000, false);
-    receiver = packet(receiver, 8, 28000, false);
-    receiver = acknowledge(receiver, 28000, ROOM);
+    receiver = packet(receiver, 2, 26000, LUMBIXET_ECN_NONE);
+    receiver = packet(receiver, 7, 27000, LUMBIXET_ECN_NONE);
+    receiver = packet(receiver, 8, 28000, LUMBIXET_ECN_NONE);
+    receiver = acknowledge(receiver, 28000, false, ROOM);
 
     puts("\nThe network is congested, and the sender asks");
-    receiver = packet(receiver, 9, 29000, true);
-    receiver = acknowledge(receiver, 29000, 4);
-    receiver = acknowledge(receiver, 29000, 5);
+    receiver = packet(receiver, 9, 29000, LUMBIXET_ECN_CE);
+    receiver = acknowledge(receiver, 29000, false, 4);
+    receiver = acknowledge(receiver, 29000, false, 5);
     receiver = asked(receiver);
-    receiver = acknowledge(receiver, 29400, ROOM);
+    receiver = acknowledge(receiver, 29400, false, ROOM);
 
     puts("\nThe sender confirms an acknowledgment");
-    receiver = packet(receiver, 12, 30000, false);
-    receiver = packet(receiver, 13, 31000, false);
-    receiver = acknowledge(receiver, 31000, ROOM);
+    receiver = packet(receiver, 12, 30000, LUMBIXET_ECN_NONE);
+    receiver = packet(receiver, 13, 31000, LUMBIXET_ECN_NONE);
+    receiver = acknowledge(receiver, 31000, false, ROOM);
     receiver = confirmed(receiver, 9);
-    receiver = acknowledge(receiver, 31500, ROOM);
-    receiver = packet(receiver, 9, 32000, false);
+    receiver = acknowledge(receiver, 31500, false, ROOM);
+    receiver = packet(receiver, 9, 32000, LUMBIXET_ECN_NONE);
     receiver = confirmed(receiver, 13);
-    receiver = packet(receiver, 14, 33000, false);
-    receiver = acknowledge(receiver, 33000, ROOM);
-    confirmed(receiver, 15);
+    receiver = packet(receiver, 14, 33000, LUMBIXET_ECN_NONE);
+    receiver = acknowledge(receiver, 33000, false, ROOM);
+    receiver = confirmed(receiver, 15);
+
+    puts("\nThe sender wants the marks counted");
+    receiver = packet(receiver, 15, 34000, LUMBIXET_ECN_ECT0);
+    receiver = packet(receiver, 16, 34500, LUMBIXET_ECN_CE);
+    receiver = acknowledge(receiver, 34500, true, 7);
+    receiver = acknowledge(receiver, 34500, true, 8);
+    receiver = packet(receiver, 16, 34600, LUMBIXET_ECN_CE);
+    receiver = packet(receiver, 18, 35000, LUMBIXET_ECN_ECT1);
+    acknowledge(receiver, 35000, true, ROOM);
 
     puts("\nThe report");
     report();

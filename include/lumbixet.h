@@ -17,8 +17,9 @@
  * archive asks for memcpy and memset alone; of the compiler C11 or C++11 is assumed.
  * Versions: patch numbers change no declaration. While MAJOR is 0, a new MINOR may add calls, constants
  * and fields, and so change the size of a struct: compile header and archive of one version. 0.2 brought lumbixet_tracker.h,
- * `confirmed` and lumbixet_confirm: a record is 256 bytes since, and one that was kept by 0.1 is opened anew.
- * Announced are ECN totals in lumbixet_receiver, and more metrics in lumbixet_header. Numbers keep their meaning.
+ * `confirmed` and lumbixet_confirm. 0.3 brought the totals of marks: lumbixet_packet takes the ECN field in place
+ * of the CE mark, lumbixet_write takes which ACK to write, and a record is 288 bytes; one that was kept by an
+ * earlier version is opened anew. Announced are more metrics in lumbixet_header. Numbers keep their meaning.
  */
 #ifndef LUMBIXET_H
 #define LUMBIXET_H
@@ -33,16 +34,16 @@ extern "C" {
 
 /* The version of this header and of the archive that goes with it: its parts, one number to compare, and its name. */
 #define LUMBIXET_VERSION_MAJOR 0
-#define LUMBIXET_VERSION_MINOR 2
+#define LUMBIXET_VERSION_MINOR 3
 #define LUMBIXET_VERSION_PATCH 0
 #define LUMBIXET_VERSION (10000 * LUMBIXET_VERSION_MAJOR + 100 * LUMBIXET_VERSION_MINOR + LUMBIXET_VERSION_PATCH)
-#define LUMBIXET_VERSION_TEXT "0.2.0"
+#define LUMBIXET_VERSION_TEXT "0.3.0"
 
 /* The largest number, threshold and time: 2^62 - 1. */
 #define LUMBIXET_LARGEST UINT64_C(4611686018427387903)
 
 /* Room that always suffices; tools/check-room.c computes each again. */
-#define LUMBIXET_ACK_ROOM 1042     /* bytes of an ACK frame with every range that the window can have */
+#define LUMBIXET_ACK_ROOM 1066     /* bytes of an ACK frame with counts and every range that the window can have */
 #define LUMBIXET_FREQUENCY_ROOM 34 /* bytes of an ACK_FREQUENCY frame */
 #define LUMBIXET_REPORT_ROOM 894   /* bytes of a report with 4 metrics and 50 entries */
 #define LUMBIXET_RANGES_ROOM(bytes) ((bytes) > 5 ? (bytes) - 3 : 2) /* numbers for the ranges of an ACK of so many bytes */
@@ -78,6 +79,14 @@ enum {
     LUMBIXET_ORDER = 3,      /* packets are missing or came out of order */
     LUMBIXET_CONGESTION = 4, /* a packet had the CE mark: before the first accepted ACK_FREQUENCY any, then the first of a run */
     LUMBIXET_TIMER = 5       /* the delay in force has passed */
+};
+
+/* The mark that a packet carried: the ECN field of its IP header (RFC 3168, section 5). */
+enum {
+    LUMBIXET_ECN_NONE = 0, /* not ECN-capable transport: no mark */
+    LUMBIXET_ECN_ECT1 = 1, /* ECT(1) */
+    LUMBIXET_ECN_ECT0 = 2, /* ECT(0) */
+    LUMBIXET_ECN_CE = 3    /* congestion experienced */
 };
 
 /* ---- numbers on the wire */
@@ -127,6 +136,10 @@ typedef struct {
     uint64_t delay;   /* as on the wire: times 2 to the power of the exponent that its writer announced, microseconds */
     uint64_t ranges;  /* how many ranges were written to the lent slice */
     uint64_t used;    /* the frame's length */
+    uint64_t counts;  /* 1 where the frame is of type 03, which has the three counts; else 0, and they are 0 too */
+    uint64_t ect0;    /* packets that arrived at the frame's writer so far with ECT(0) */
+    uint64_t ect1;    /* with ECT(1) */
+    uint64_t ce;      /* with CE */
 } lumbixet_ack;
 
 /* Reads an ACK_FREQUENCY frame (type 40 af). */
@@ -135,8 +148,8 @@ lumbixet_frequency lumbixet_read_frequency(const uint8_t *bytes, size_t length);
 /* Reads an IMMEDIATE_ACK frame (type 1f, and nothing else). */
 lumbixet_immediate_frame lumbixet_read_immediate(const uint8_t *bytes, size_t length);
 
-/* Reads an ACK frame of type 02. `ranges` gets smallest and largest of each range, newest first; `room` counts numbers,
- * and LUMBIXET_RANGES_ROOM(length) of them always suffice. */
+/* Reads an ACK frame of type 02, or of type 03 with its counts. `ranges` gets smallest and largest of each range, newest
+ * first; `room` counts numbers, and LUMBIXET_RANGES_ROOM(length) of them always suffice. */
 lumbixet_ack lumbixet_read_ack(const uint8_t *bytes, size_t length, uint64_t *ranges, size_t room);
 
 /* Writes an ACK_FREQUENCY frame at the start of the buffer. 5, then 9. */
@@ -167,6 +180,10 @@ typedef struct {
     uint64_t highest;           /* the end of the highest ack-eliciting number */
     uint64_t ce;                /* not 0 exactly where the last accepted packet had the CE mark */
     uint64_t cause;             /* why an acknowledgment is due */
+    uint64_t total_ect0;        /* accepted packets that were marked ECT(0); each of the totals stays at 2^62 - 1 */
+    uint64_t total_ect1;        /* accepted packets that were marked ECT(1) */
+    uint64_t total_ce;          /* accepted packets that were marked CE */
+    uint64_t total_unmarked;    /* accepted packets without a mark */
 } lumbixet_receiver;
 
 /* A call's result and the next record. */
@@ -186,8 +203,10 @@ typedef struct {
  * opening hands back the usual record (1, 1, 25 ms, 1,000 us). */
 lumbixet_answer lumbixet_open(uint64_t threshold, uint64_t reordering, uint64_t maximum_ms, uint64_t minimum_us);
 
-/* A packet arrives, ack-eliciting or not, with the CE mark or not. 1, 5, then 6 or 7. */
-lumbixet_answer lumbixet_packet(lumbixet_receiver receiver, uint64_t number, uint64_t time_us, bool eliciting, bool marked);
+/* A packet arrives, ack-eliciting or not, with the ECN field of its IP header (LUMBIXET_ECN_NONE and so on). Only the two
+ * low bits of `ecn` count, so the whole traffic class byte may be given as the socket tells it. Of an accepted packet, of
+ * either kind, the total of its mark grows by one. 1, 5, then 6 or 7. */
+lumbixet_answer lumbixet_packet(lumbixet_receiver receiver, uint64_t number, uint64_t time_us, bool eliciting, uint64_t ecn);
 
 /* The timer is looked at. 1, 5. */
 lumbixet_answer lumbixet_timer(lumbixet_receiver receiver, uint64_t time_us);
@@ -205,8 +224,9 @@ lumbixet_answer lumbixet_immediate(lumbixet_receiver receiver);
 lumbixet_answer lumbixet_confirm(lumbixet_receiver receiver, uint64_t largest);
 
 /* Writes an ACK frame at the start of the buffer, with as many newest ranges as fit, and its delay in units of 8
- * microseconds (exponent 3). 1, 5, 8, 9. */
-lumbixet_wrote lumbixet_write(lumbixet_receiver receiver, uint64_t time_us, uint8_t *buffer, size_t length);
+ * microseconds (exponent 3). With `counts` it is of type 03: behind the ranges stand the totals of ECT(0), ECT(1) and CE
+ * as they are now, and there is that much less room for ranges; else of type 02. 1, 5, 8, 9. */
+lumbixet_wrote lumbixet_write(lumbixet_receiver receiver, uint64_t time_us, bool counts, uint8_t *buffer, size_t length);
 
 /* When to look at the timer: the first unacknowledged arrival plus the delay in force, in microseconds; UINT64_MAX while
  * nothing is pending or an acknowledgment is due already. */

@@ -9,10 +9,10 @@ SIZE(lumbixet_number, 32);
 SIZE(lumbixet_put, 16);
 SIZE(lumbixet_frequency, 48);
 SIZE(lumbixet_immediate_frame, 16);
-SIZE(lumbixet_ack, 40);
-SIZE(lumbixet_receiver, 256);
-SIZE(lumbixet_answer, 264);
-SIZE(lumbixet_wrote, 272);
+SIZE(lumbixet_ack, 72);
+SIZE(lumbixet_receiver, 288);
+SIZE(lumbixet_answer, 296);
+SIZE(lumbixet_wrote, 304);
 
 /* No byte between two fields: answers can be compared by their bytes. */
 SIZE(lumbixet_answer, 8 + sizeof(lumbixet_receiver));
@@ -35,6 +35,10 @@ AT(lumbixet_receiver, acknowledged, 224);
 AT(lumbixet_receiver, highest, 232);
 AT(lumbixet_receiver, ce, 240);
 AT(lumbixet_receiver, cause, 248);
+AT(lumbixet_receiver, total_ect0, 256);
+AT(lumbixet_receiver, total_ect1, 264);
+AT(lumbixet_receiver, total_ce, 272);
+AT(lumbixet_receiver, total_unmarked, 280);
 AT(lumbixet_answer, next, 8);
 AT(lumbixet_wrote, length, 8);
 AT(lumbixet_wrote, next, 16);
@@ -62,6 +66,7 @@ static void frames(void)
 {
     static const uint8_t asked[] = {0x40, 0xaf, 0x05, 0x0a, 0x80, 0x00, 0x61, 0xa8, 0x03};
     static const uint8_t ranged[] = {0x02, 0x05, 0x32, 0x01, 0x02, 0x00, 0x01};
+    static const uint8_t counted[] = {0x03, 0x05, 0x32, 0x00, 0x02, 11, 12, 13};
     static const uint8_t longer[] = {0x40, 0x1f};
     static const uint8_t below[] = {0x02, 0x05, 0x00, 0x01, 0x04, 0x02};
     uint8_t buffer[9];
@@ -90,7 +95,15 @@ static void frames(void)
     SAME(ack.delay, 50);
     SAME(ack.ranges, 2);
     SAME(ack.used, 7);
+    SAME(ack.counts, 0);
     same_bytes("those of the ranges", ranges, (uint64_t[]){3, 5, 0, 1, 94, 95}, sizeof ranges);
+    ack = lumbixet_read_ack(counted, sizeof counted, ranges, 2);
+    SAME(ack.result, LUMBIXET_ACCEPTED);
+    SAME(ack.used, 8);
+    SAME(ack.counts, 1);
+    SAME(ack.ect0, 11);
+    SAME(ack.ect1, 12);
+    SAME(ack.ce, 13);
     SAME(lumbixet_read_ack(below, sizeof below, ranges, 6).result, LUMBIXET_BELOW_ZERO);
     SAME(lumbixet_read_ack(ranged, sizeof ranged, ranges, 3).result, LUMBIXET_NO_ROOM);
 }
@@ -98,9 +111,9 @@ static void frames(void)
 /* A number in each word of the window. */
 static void window(void)
 {
-    lumbixet_receiver receiver = lumbixet_packet(lumbixet_open(1, 1, 25, 1000).next, 1023, 0, false, false).next;
+    lumbixet_receiver receiver = lumbixet_packet(lumbixet_open(1, 1, 25, 1000).next, 1023, 0, false, LUMBIXET_ECN_NONE).next;
     for (uint64_t i = 0; i < 16; i++)
-        receiver = lumbixet_packet(receiver, 65 * i, 0, false, false).next;
+        receiver = lumbixet_packet(receiver, 65 * i, 0, false, LUMBIXET_ECN_NONE).next;
     for (uint64_t i = 0; i < 16; i++)
         SAME(receiver.window[i], (UINT64_C(1) << i) + (i == 15 ? UINT64_C(1) << 63 : 0));
 }
@@ -118,16 +131,21 @@ static void record(void)
     SAME(r.threshold, 11);
     SAME(r.reordering, 12);
     SAME(r.delay, 60000);
-    r = next(lumbixet_packet(r, 5, 777, true, false));
-    r = next(lumbixet_packet(r, 9, 778, false, false));
-    uint8_t buffer[8];
-    lumbixet_wrote wrote = lumbixet_write(r, 778, buffer, sizeof buffer);
+    SAME(r.total_ect0 | r.total_ect1 | r.total_ce | r.total_unmarked, 0);
+    r.total_ect0 = 31, r.total_ect1 = 41, r.total_ce = 51, r.total_unmarked = 61;
+    r = next(lumbixet_packet(r, 5, 777, true, LUMBIXET_ECN_NONE));
+    r = next(lumbixet_packet(r, 9, 778, false, LUMBIXET_ECN_ECT1));
+    uint8_t buffer[10];
+    lumbixet_wrote wrote = lumbixet_write(r, 778, true, buffer, sizeof buffer);
+    SAME(wrote.length, 10);
+    same_bytes("those of ACK with counts", buffer, "\x03\x09\x00\x01\x00\x02\x00\x1f\x2a\x33", 10);
+    wrote = lumbixet_write(r, 778, false, buffer, sizeof buffer);
     SAME(wrote.result, LUMBIXET_ACCEPTED);
     SAME(wrote.length, 7);
     same_bytes("those of ACK", buffer, "\x02\x09\x00\x01\x00\x02\x00", 7);
-    r = next(lumbixet_packet(wrote.next, 3, 888, true, false));
-    r = next(lumbixet_packet(r, 2, 889, true, false));
-    r = next(lumbixet_packet(r, 20, 999, false, true));
+    r = next(lumbixet_packet(wrote.next, 3, 888, true, LUMBIXET_ECN_ECT0));
+    r = next(lumbixet_packet(r, 2, 889, true, LUMBIXET_ECN_ECT0 + 4 * 46));
+    r = next(lumbixet_packet(r, 20, 999, false, LUMBIXET_ECN_CE));
     r = next(lumbixet_confirm(r, 7));
     r = next(lumbixet_threshold(r, 77, 101, 50000, 102));
     r = next(lumbixet_timer(r, 50888));
@@ -147,14 +165,18 @@ static void record(void)
     SAME(r.highest, 6);
     SAME(r.ce, 1);
     SAME(r.cause, LUMBIXET_TIMER);
+    SAME(r.total_ect0, 33);
+    SAME(r.total_ect1, 42);
+    SAME(r.total_ce, 52);
+    SAME(r.total_unmarked, 62);
 
     lumbixet_answer stale = lumbixet_threshold(r, 77, 1, 50000, 1);
     SAME(stale.result, LUMBIXET_STALE);
     SAME(stale.next.threshold, 101);
-    SAME(lumbixet_packet(r, 9, 0, true, false).result, LUMBIXET_REPEATED);
-    SAME(lumbixet_packet(r, 3, 0, true, false).result, LUMBIXET_BELOW_WINDOW);
+    SAME(lumbixet_packet(r, 9, 0, true, LUMBIXET_ECN_NONE).result, LUMBIXET_REPEATED);
+    SAME(lumbixet_packet(r, 3, 0, true, LUMBIXET_ECN_NONE).result, LUMBIXET_BELOW_WINDOW);
     SAME(lumbixet_confirm(r, 10).result, LUMBIXET_NOT_ACKNOWLEDGED);
-    SAME(lumbixet_write(r, 0, buffer, 4).result, LUMBIXET_NO_ROOM);
+    SAME(lumbixet_write(r, 0, false, buffer, 4).result, LUMBIXET_NO_ROOM);
     r.cause = 6;
     SAME(lumbixet_timer(r, 0).result, LUMBIXET_INCONSISTENT);
 }
@@ -165,13 +187,13 @@ static void causes(void)
     SAME(r.cause, LUMBIXET_NOT_DUE);
     SAME(lumbixet_immediate(r).result, LUMBIXET_NOTHING_YET);
     SAME(lumbixet_open(1, 1, 16384, 1000).result, LUMBIXET_DELAY);
-    SAME(lumbixet_packet(r, 0, 0, true, true).next.cause, LUMBIXET_CONGESTION);
-    SAME(lumbixet_packet(r, 1, 0, true, false).next.cause, LUMBIXET_ORDER);
-    r = next(lumbixet_packet(r, 0, 0, true, false));
-    SAME(lumbixet_packet(r, 1, 0, true, false).next.cause, LUMBIXET_COUNT);
+    SAME(lumbixet_packet(r, 0, 0, true, LUMBIXET_ECN_CE).next.cause, LUMBIXET_CONGESTION);
+    SAME(lumbixet_packet(r, 1, 0, true, LUMBIXET_ECN_NONE).next.cause, LUMBIXET_ORDER);
+    r = next(lumbixet_packet(r, 0, 0, true, LUMBIXET_ECN_NONE));
+    SAME(lumbixet_packet(r, 1, 0, true, LUMBIXET_ECN_NONE).next.cause, LUMBIXET_COUNT);
     SAME(lumbixet_immediate(r).next.cause, LUMBIXET_IMMEDIATE);
-    r = next(lumbixet_packet(r, 1024, 0, false, false));
-    SAME(lumbixet_packet(r, 0, 0, true, false).result, LUMBIXET_BELOW_WINDOW);
+    r = next(lumbixet_packet(r, 1024, 0, false, LUMBIXET_ECN_NONE));
+    SAME(lumbixet_packet(r, 0, 0, true, LUMBIXET_ECN_NONE).result, LUMBIXET_BELOW_WINDOW);
 }
 
 int main(void)

@@ -29,7 +29,7 @@ static unsigned width(uint64_t number)
 
 /* The most bytes that an ACK frame of the window can take. A range after the first takes a gap of g + 1 places and l + 1
  * places of its own, and the bytes of g and l. Of each width the least number is tried: a larger one takes more places
- * and no more bytes. Type, largest, delay and count take at most 1, 8, 8 and 2. */
+ * and no more bytes. Type, largest, delay and range count take at most 1, 8, 8 and 2, and each of the three ECN counts 8. */
 static unsigned most_bytes_of_ack(void)
 {
     static const unsigned least[] = {0, 64};
@@ -46,7 +46,7 @@ static unsigned most_bytes_of_ack(void)
         unsigned bytes = width(first) + most[WINDOW - 1 - first];
         ranges = bytes > ranges ? bytes : ranges;
     }
-    return 1 + 8 + 8 + 2 + ranges;
+    return 1 + 8 + 8 + 2 + ranges + 3 * 8;
 }
 
 /* A receiver that got every second number of a window, the last of them `largest`, at time 0. */
@@ -54,7 +54,7 @@ static lumbixet_receiver every_second(uint64_t largest)
 {
     lumbixet_receiver receiver = lumbixet_open(1, 1, 25, 1000).next;
     for (uint64_t number = largest - (WINDOW - 2); number <= largest; number += 2) {
-        lumbixet_answer answer = lumbixet_packet(receiver, number, 0, true, false);
+        lumbixet_answer answer = lumbixet_packet(receiver, number, 0, true, LUMBIXET_ECN_CE);
         HOLDS(answer.result == LUMBIXET_ACCEPTED);
         receiver = answer.next;
     }
@@ -67,11 +67,15 @@ static void ack_room(void)
     static uint64_t ranges[LUMBIXET_RANGES_ROOM(LUMBIXET_ACK_ROOM)];
     HOLDS(most_bytes_of_ack() == LUMBIXET_ACK_ROOM);
     lumbixet_receiver receiver = every_second(LUMBIXET_LARGEST);
-    lumbixet_wrote wrote = lumbixet_write(receiver, LUMBIXET_LARGEST, frame, sizeof frame);
+    HOLDS(receiver.total_ce == WINDOW / 2);
+    receiver.total_ect0 = receiver.total_ect1 = receiver.total_ce = LUMBIXET_LARGEST;
+    lumbixet_wrote wrote = lumbixet_write(receiver, LUMBIXET_LARGEST, true, frame, sizeof frame);
     HOLDS(wrote.result == LUMBIXET_ACCEPTED && wrote.length == LUMBIXET_ACK_ROOM);
     HOLDS(lumbixet_read_ack(frame, sizeof frame, ranges, sizeof ranges / 8).ranges == WINDOW / 2);
-    wrote = lumbixet_write(receiver, LUMBIXET_LARGEST, frame, sizeof frame - 1);
+    wrote = lumbixet_write(receiver, LUMBIXET_LARGEST, true, frame, sizeof frame - 1);
     HOLDS(wrote.result == LUMBIXET_ACCEPTED && wrote.length < LUMBIXET_ACK_ROOM - 1);
+    wrote = lumbixet_write(receiver, LUMBIXET_LARGEST, false, frame, sizeof frame);
+    HOLDS(wrote.result == LUMBIXET_ACCEPTED && wrote.length == LUMBIXET_ACK_ROOM - 3 * 8);
 }
 
 static void ranges_room(void)
@@ -83,7 +87,7 @@ static void ranges_room(void)
         HOLDS(2 * (1 + (bytes - 5) / 2) <= LUMBIXET_RANGES_ROOM(bytes));
     lumbixet_receiver receiver = every_second(WINDOW - 2);
     for (size_t room = 6; room <= sizeof frame; room++) {
-        uint64_t length = lumbixet_write(receiver, 0, frame, room).length;
+        uint64_t length = lumbixet_write(receiver, 0, room % 2 && room > 9, frame, room).length;
         HOLDS(lumbixet_read_ack(frame, length, ranges, LUMBIXET_RANGES_ROOM(length)).result == LUMBIXET_ACCEPTED);
     }
     /* where each number takes one byte, not one number less would do */
@@ -124,10 +128,10 @@ static void wake(void)
 {
     lumbixet_receiver receiver = lumbixet_open(9, 9, 25, 1000).next;
     HOLDS(lumbixet_wake(&receiver) == UINT64_MAX);
-    receiver = lumbixet_packet(receiver, 0, 500, false, false).next;
+    receiver = lumbixet_packet(receiver, 0, 500, false, LUMBIXET_ECN_NONE).next;
     HOLDS(lumbixet_wake(&receiver) == UINT64_MAX);
-    receiver = lumbixet_packet(receiver, 1, 777, true, false).next;
-    receiver = lumbixet_packet(receiver, 2, 888, true, false).next;
+    receiver = lumbixet_packet(receiver, 1, 777, true, LUMBIXET_ECN_NONE).next;
+    receiver = lumbixet_packet(receiver, 2, 888, true, LUMBIXET_ECN_NONE).next;
     HOLDS(lumbixet_wake(&receiver) == 25777);
     receiver = lumbixet_threshold(receiver, 0, 9, 3000, 9).next;
     uint64_t time = lumbixet_wake(&receiver);

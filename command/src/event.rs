@@ -1,6 +1,6 @@
 //! An event record, and the receiver's answer to it (document 01, "The replay program").
 
-use lumbixet::{Micros, Millis, Packet, Receiver, Refusal};
+use lumbixet::{Mark, Micros, Millis, Packet, Receiver, Refusal};
 
 /// How many bytes a record has.
 pub const RECORD: usize = 24;
@@ -19,23 +19,29 @@ pub const IMMEDIATE: u8 = 4;
 pub struct Event {
     pub kind: u8,
     pub eliciting: bool,
-    pub marked: bool,
+    pub mark: Mark,
     pub number: u64,
     pub time: u64,
 }
 
 impl Event {
-    /// "flags (1 ack-eliciting, 2 CE; others ignored), six ignored bytes, number, time, each 8 bytes high first"
+    /// "flags (1 ack-eliciting, 2 CE; others ignored), six ignored bytes, number, time, each 8 bytes high first"; by document
+    /// 02, No. 2, "2 is CE, 4 ECT(0), 8 ECT(1); with several set, the first of these counts"
     pub fn read(record: &[u8; RECORD]) -> Event {
         let [kind, flags, _, _, _, _, _, _, a, b, c, d, e, f, g, h, i, j, k, l, m, n, o, p] = *record;
         Event {
             kind,
             eliciting: flags & 1 != 0,
-            marked: flags & 2 != 0,
+            mark: mark_of(flags),
             number: u64::from_be_bytes([a, b, c, d, e, f, g, h]),
             time: u64::from_be_bytes([i, j, k, l, m, n, o, p]),
         }
     }
+}
+
+fn mark_of(flags: u8) -> Mark {
+    let marks = [(2, Mark::Ce), (4, Mark::Ect0), (8, Mark::Ect1)];
+    marks.iter().find(|(flag, _)| flags & flag != 0).map_or(Mark::None, |(_, mark)| *mark)
 }
 
 /// What came of a record.
@@ -103,5 +109,5 @@ impl Hearing {
 }
 
 fn packet(event: Event) -> Packet {
-    Packet { number: event.number, time: Micros(event.time), eliciting: event.eliciting, marked: event.marked }
+    Packet { number: event.number, time: Micros(event.time), eliciting: event.eliciting, mark: event.mark }
 }

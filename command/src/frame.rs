@@ -2,7 +2,7 @@
 
 use std::ffi::{OsStr, OsString};
 
-use lumbixet::{ranges_room, Ack, Frequency, Immediate, Refusal};
+use lumbixet::{ranges_room, Ack, Counts, Frequency, Immediate, Refusal};
 
 use crate::arguments::{Form, Options};
 use crate::fields::{table, Fault, Field, Walk};
@@ -14,14 +14,17 @@ use crate::text::{counted, grouped};
 /// Room for the ranges of most frames; one with more is read again.
 const FEW: usize = 64;
 
+/// The type of an ACK frame with the counts of marks.
+const ACK_WITH_COUNTS: u64 = 3;
+
 /// Lines are printed when so many bytes of them have come together.
 const MANY: usize = 1 << 16;
 
 enum Frame {
     Frequency(Frequency),
     Immediate,
-    /// Largest number and delay, and smallest and largest of each range.
-    Ack(u64, u64, Vec<u64>),
+    /// Largest number and delay, smallest and largest of each range, and of type 03 the counts of marks.
+    Ack(u64, u64, Vec<u64>, Option<Counts>),
 }
 
 /// The frame at the start and its length: the first reader that knows the type decides.
@@ -44,13 +47,13 @@ fn read(bytes: &[u8]) -> Result<(Frame, usize), Refusal> {
 fn read_ack(bytes: &[u8], room: usize) -> Result<(Frame, usize), Refusal> {
     let mut ranges = vec![0; room];
     let (ack, rest) = Ack::read(bytes, &mut ranges)?;
-    Ok((Frame::Ack(ack.largest, ack.delay, ack.pairs.to_vec()), bytes.len() - rest.len()))
+    Ok((Frame::Ack(ack.largest, ack.delay, ack.pairs.to_vec(), ack.counts), bytes.len() - rest.len()))
 }
 
 /// The fields of the frame that the bytes begin with.
 fn walk(bytes: &[u8]) -> Walk<'_> {
     let mut walk = Walk::new(bytes);
-    walk.next("type");
+    let kind = walk.next("type");
     match Frequency::read(bytes) {
         Err(Refusal::OtherType) => {}
         _ => {
@@ -68,6 +71,11 @@ fn walk(bytes: &[u8]) -> Walk<'_> {
     let count = walk.next("range count");
     walk.next("first range");
     walk.pairs(count.unwrap_or(0), "gap", "range length");
+    if kind == Some(ACK_WITH_COUNTS) {
+        for name in ["ECT(0) count", "ECT(1) count", "CE count"] {
+            walk.next(name);
+        }
+    }
     walk
 }
 
@@ -93,7 +101,9 @@ fn says_ack(index: usize, field: &Field, pairs: &[u64]) -> String {
         _ => format!("{value}: {} to {} {word}", grouped(first), grouped(last)),
     };
     match (field.name, index) {
+        ("type", _) if field.value == ACK_WITH_COUNTS => "ACK with the counts of marks".to_string(),
         ("type", _) => "ACK".to_string(),
+        ("ECT(0) count" | "ECT(1) count" | "CE count", _) => format!("{value} packets so far"),
         ("delay", _) => format!("{value} in the unit that its writer announced"),
         ("range count", _) => format!("{value} behind the first range"),
         ("first range" | "range length", _) => numbers(pairs[index - 4], pairs[index - 3], "came"),
@@ -109,7 +119,7 @@ fn put(frame: &Frame, bytes: &[u8], base: usize, output: &mut Output) {
             ("IMMEDIATE_ACK", walk.rows(base, |_, _| "IMMEDIATE_ACK: the sender asks for an acknowledgment".into()))
         }
         Frame::Frequency(_) => ("ACK_FREQUENCY", walk.rows(base, |_, field| says_frequency(field))),
-        Frame::Ack(_, _, pairs) => ("ACK", walk.rows(base, |index, field| says_ack(index, field, pairs))),
+        Frame::Ack(_, _, pairs, _) => ("ACK", walk.rows(base, |index, field| says_ack(index, field, pairs))),
     };
     output.put(&format!("{name}, {} at byte {base}\n{}", counted(bytes.len(), "byte"), table(&rows)));
 }
@@ -121,10 +131,13 @@ fn object(frame: &Frame, length: usize, object: Object) -> Object {
             let object = object.text("frame", "ACK_FREQUENCY").plain("length", length).plain("sequence", frame.sequence);
             object.plain("threshold", frame.threshold).plain("delay_us", frame.delay.0).plain("reordering", frame.reordering)
         }
-        Frame::Ack(largest, delay, pairs) => {
+        Frame::Ack(largest, delay, pairs, counts) => {
             let ranges = array(pairs.chunks_exact(2).map(|pair| format!("[{},{}]", pair[0], pair[1])));
             let object = object.text("frame", "ACK").plain("length", length).plain("largest", largest);
-            object.plain("delay", delay).plain("ranges", ranges)
+            let object = object.plain("delay", delay).plain("ranges", ranges);
+            counts
+                .iter()
+                .fold(object, |object, Counts { ect0, ect1, ce }| object.plain("ect0", ect0).plain("ect1", ect1).plain("ce", ce))
         }
     }
 }

@@ -58,7 +58,7 @@ one, and for -, it reads standard input, and answers what has come.
 
 const FRAME: &str = "lumbixet frame [OPTION..] HEX|FILE..
 
-Reads the frames ACK (type 02), ACK_FREQUENCY and IMMEDIATE_ACK, one after the other, and says what each
+Reads the frames ACK (type 02 or 03), ACK_FREQUENCY and IMMEDIATE_ACK, one after the other, and says what each
 field holds, or what was refused and where. An argument of hexadecimal digits in pairs is HEX, and
 such arguments in a row are one run of bytes; any other names a FILE that holds the bytes (for one with
 a name like digits, say ./02). - is standard input.

@@ -3,7 +3,7 @@
 use std::ffi::OsStr;
 use std::fmt::Write;
 
-use lumbixet::{Cause, Refusal};
+use lumbixet::{Cause, Mark, Refusal};
 
 use crate::event::{Told, IMMEDIATE, PACKET, TIMER, WRITE};
 use crate::output::Output;
@@ -87,7 +87,7 @@ pub fn put_told(file: &OsStr, told: &Told, output: &mut Output) {
                 object = object.plain("time_us", event.time);
             }
             if event.kind == PACKET {
-                object = object.plain("ack_eliciting", event.eliciting).plain("ce", event.marked);
+                object = object.plain("ack_eliciting", event.eliciting).plain("ce", event.mark == Mark::Ce);
             }
             if event.kind == WRITE && told.result == 0 {
                 object = object.plain("length", told.written);

@@ -2,6 +2,8 @@
 
 use std::collections::BTreeMap;
 
+use lumbixet::Mark;
+
 use crate::event::{Told, PACKET, WRITE};
 
 /// When, in milliseconds, and which packet number.
@@ -57,7 +59,7 @@ impl Trace {
         };
         let time = event.time as f64 / 1000.0;
         match (event.kind, told.result) {
-            (PACKET, 0) => self.packet(event.number, time, event.marked),
+            (PACKET, 0) => self.packet(event.number, time, event.mark == Mark::Ce),
             (PACKET, _) => self.refused.push((time, event.number)),
             (WRITE, 0) => self.writes.push(time),
             _ => {}

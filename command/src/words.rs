@@ -1,6 +1,6 @@
 //! A line of replay as a sentence: what came, what was answered, and why an acknowledgment is due.
 
-use lumbixet::{Cause, Refusal};
+use lumbixet::{Cause, Mark, Refusal};
 
 use crate::event::{Event, Told, IMMEDIATE, PACKET, TIMER, WRITE};
 use crate::output::{Colour, Output};
@@ -32,7 +32,7 @@ fn what(told: &Told) -> String {
 }
 
 fn kind_of_packet(event: &Event) -> &'static str {
-    match (event.eliciting, event.marked) {
+    match (event.eliciting, event.mark == Mark::Ce) {
         (true, false) => "ack-eliciting",
         (true, true) => "ack-eliciting, with a congestion mark",
         (false, false) => "not ack-eliciting",

@@ -51,12 +51,12 @@ ends '24 MB through a pipe' 0 long.lines
 # ---- replay: a pipe that delivers slowly, and cuts records, is answered at once
 slowly ./lumbixet replay
 
-# ---- frames: P1 and P6 of document 01 with IMMEDIATE_ACK between
-run ./lumbixet frame 40 af 05 0a 80 00 61 a8 03 1f '02 05 00 01 02 00 01'
+# ---- frames: P1 and P6 of document 01 with IMMEDIATE_ACK between, and P6's ranges as type 03
+run ./lumbixet frame 40 af 05 0a 80 00 61 a8 03 1f '02 05 00 01 02 00 01' '03 05 00 01 02 00 01 04 00 40 40'
 ends 'frames' 0 "$tests/frames.words"
-run ./lumbixet frame --json 40af050a800061a803 1F 02050001020001
+run ./lumbixet frame --json 40af050a800061a803 1F 02050001020001 0305000102000104004040
 ends 'frames for machines' 0 "$tests/frames.json"
-bytes 40af050a800061a8031f02050001020001 >frames
+bytes 40af050a800061a8031f020500010200010305000102000104004040 >frames
 run ./lumbixet frame frames
 ends 'frames in a file' 0 "$tests/frames.words"
 run ./lumbixet frame - <frames
@@ -73,7 +73,9 @@ refused_frame() {
     ends "the frame $1" 1 line
 }
 refused_frame 401f '3: the frame type is another one) at byte 0, type'
-refused_frame 03 '3: the frame type is another one) at byte 0, type'
+refused_frame 04 '3: the frame type is another one) at byte 0, type'
+refused_frame '40 03' '3: the frame type is another one) at byte 0, type'
+refused_frame '03 05 00 00 02 07 40' '2: the bytes end inside a field) at byte 6, ECT(1) count'
 refused_frame 40 '2: the bytes end inside a field) at byte 0, type'
 refused_frame 40af05 '2: the bytes end inside a field) at byte 3, ack-eliciting threshold'
 refused_frame 0205000102 '2: the bytes end inside a field) at byte 5, gap'

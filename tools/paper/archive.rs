@@ -6,9 +6,19 @@ mod raw;
 
 pub use raw::*;
 
-use crate::record::{Record, WINDOW};
+use crate::record::{Mark, Record, Totals, WINDOW};
 use crate::report;
 use std::collections::BTreeSet;
+
+/// For hosts a mark is the ECN field of the IP header (RFC 3168, section 5); the two low bits of the number count.
+pub fn mark_of_ecn(ecn: u64) -> Mark {
+    match ecn % 4 {
+        0 => Mark::Unmarked,
+        1 => Mark::Ect1,
+        2 => Mark::Ect0,
+        _ => Mark::Ce,
+    }
+}
 
 /// The word and the bit in it of a place of the window.
 pub fn place(bit: u64) -> (usize, u64) {
@@ -38,6 +48,7 @@ pub fn record_of(raw: &Receiver) -> Record {
         minimum_us: raw.minimum,
         sequence: number_of(raw.sequence),
         cause: raw.cause,
+        totals: Totals { ect0: raw.total_ect0, ect1: raw.total_ect1, ce: raw.total_ce, unmarked: raw.total_unmarked },
     }
 }
 
@@ -86,6 +97,10 @@ pub fn raw_of(record: &Record) -> Receiver {
         highest: end_of(record.highest),
         ce: record.ce,
         cause: record.cause,
+        total_ect0: record.totals.ect0,
+        total_ect1: record.totals.ect1,
+        total_ce: record.totals.ce,
+        total_unmarked: record.totals.unmarked,
     }
 }
 

@@ -3,7 +3,7 @@
 
 use crate::random::Random;
 use crate::tally::Tally;
-use crate::{compare_codec, compare_forms, compare_receiver, compare_report, compare_tracker};
+use crate::{compare_codec, compare_counts, compare_forms, compare_receiver, compare_report, compare_tracker};
 
 /// Each round takes a made-up record through all calls, goes on with a grown one, and reads and writes frames and a report.
 /// Some rounds take a report through all its longer forms, and some take the tracker's records through its calls.
@@ -14,6 +14,7 @@ pub fn run(count: usize) -> Result<(), String> {
         compare_receiver::made_up(&mut random, &mut tally)?;
         compare_receiver::grown(&mut random, &mut tally)?;
         compare_codec::round(&mut random, &mut tally)?;
+        compare_counts::round(&mut random, &mut tally)?;
         compare_report::round(&mut random, &mut tally)?;
         if round % 20 == 0 {
             compare_forms::round(&mut random, &mut tally)?;

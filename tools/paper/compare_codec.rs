@@ -1,9 +1,9 @@
 //! Numbers on the wire and the three frames: whole, in longer forms, damaged at every byte, cut at every length.
 
 use crate::archive::*;
-use crate::frames::{put_frequency, put_immediate, read_ack, read_ack_into, read_frequency, read_immediate};
+use crate::frames::{put_frequency, put_immediate, read_ack, read_ack_into, read_frequency, read_immediate, Ack, Counts};
 use crate::made_up::{argument, up_to};
-use crate::made_up_bytes::{append_in_some_form, damaged};
+use crate::made_up_bytes::{append_in_form, append_in_some_form, damaged};
 use crate::numbers::{put, read, width, LARGEST};
 use crate::random::Random;
 use crate::refusals::ACCEPTED;
@@ -51,12 +51,19 @@ fn ack_frame(random: &mut Random) -> Vec<u8> {
     let count = random.one_of(&[0, 1, 2, 5, 63, 64, 70]);
     let largest = if random.chance(500) { up_to(random, LARGEST) } else { random.below(4 * count + 8) };
     let said = if random.chance(50) { random.one_of(&[count + 1, LARGEST, LARGEST / 2 + 1]) } else { count };
-    let mut bytes = vec![2];
+    let kind = random.between(2, 3);
+    let mut bytes = Vec::new();
+    append_in_form(&mut bytes, kind, if random.chance(20) { 2 } else { 1 });
+    let tail = if kind == 3 { 3 } else { 0 };
     for value in [largest, up_to(random, LARGEST), said] {
         append_in_some_form(random, &mut bytes, value);
     }
     for _ in 0..2 * count + 1 {
         let value = if random.chance(980) { random.below(2) } else { up_to(random, largest) };
+        append_in_some_form(random, &mut bytes, value);
+    }
+    for _ in 0..tail {
+        let value = up_to(random, LARGEST);
         append_in_some_form(random, &mut bytes, value);
     }
     append_tail(random, &mut bytes);
@@ -171,15 +178,35 @@ fn compare_read_ack(random: &mut Random, tally: &mut Tally, bytes: &[u8]) -> Res
     let needed = read_ack(bytes).map_or(0, |ack| 2 * ack.ranges.len());
     let any = random.below(20) as usize;
     let room = random.one_of(&[needed, needed, needed.saturating_sub(1), needed + 1, needed + 5, any]);
+    compare_read_ack_in(random, tally, bytes, room).map(|_| ())
+}
+
+/// Gives what both found.
+pub fn compare_read_ack_in(random: &mut Random, tally: &mut Tally, bytes: &[u8], room: usize) -> Result<AckFrame, String> {
     let mut papers_lent: Vec<u64> = (0..room + 4).map(|_| random.any()).collect();
     let mut archive_lent = papers_lent.clone();
     let papers = match read_ack_into(bytes, &mut papers_lent[2..2 + room]) {
-        Ok(ack) => {
-            AckFrame { result: 0, largest: ack.largest, delay: ack.delay, ranges: ack.ranges.len() as u64, used: ack.used as u64 }
-        }
+        Ok(ack) => ack_of(&ack),
         Err(result) => AckFrame { result, ..AckFrame::default() },
     };
     let archive = unsafe { lumbixet_read_ack(bytes.as_ptr(), bytes.len(), archive_lent[2..].as_mut_ptr(), room) };
     let call = Call { name: "read_ack", result: papers.result, given: &(bytes, room) };
-    tally.compare(call, (papers, papers_lent), (archive, archive_lent))
+    tally.compare(call, (papers, papers_lent), (archive, archive_lent))?;
+    Ok(papers)
+}
+
+/// The archive's answer that stands for a frame of the papers: without counts they are 0.
+fn ack_of(ack: &Ack) -> AckFrame {
+    let Counts { ect0, ect1, ce } = ack.counts.unwrap_or_default();
+    AckFrame {
+        result: ACCEPTED,
+        largest: ack.largest,
+        delay: ack.delay,
+        ranges: ack.ranges.len() as u64,
+        used: ack.used as u64,
+        counts: u64::from(ack.counts.is_some()),
+        ect0,
+        ect1,
+        ce,
+    }
 }

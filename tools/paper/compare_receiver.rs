@@ -1,11 +1,12 @@
 //! The receiver's calls: on made-up records, and on records grown from an opening.
 
 use crate::archive::*;
+use crate::compare_counts::{judge_totals, note_mark, note_totals, read_back, write_at_every_room};
 use crate::made_up::{argument, raw, reordering, up_to};
 use crate::numbers::LARGEST;
 use crate::random::Random;
 use crate::receiver::{confirm, immediate, open, packet, threshold, timer, write, NOT_DUE, ORDER};
-use crate::record::{Record, WINDOW};
+use crate::record::{Mark, Record, WINDOW};
 use crate::refusals::{ACCEPTED, BELOW_WINDOW};
 use crate::tally::{Call, Lent, Tally};
 
@@ -17,6 +18,7 @@ pub fn made_up(random: &mut Random, tally: &mut Tally) -> Result<(), String> {
         compare_packet(random, tally, &given, &record)?;
         compare_write(random, tally, &given, &record)?;
     }
+    note_totals(tally, &record);
     compare_timer(random, tally, &given, &record)?;
     compare_threshold(random, tally, &given, &record)?;
     compare_immediate(tally, &given, &record)?;
@@ -26,6 +28,7 @@ pub fn made_up(random: &mut Random, tally: &mut Tally) -> Result<(), String> {
     let confirmed = compare_confirm(random, tally, &given, &record)?;
     if confirmed != given && random.chance(50) {
         write_at_every_room(random, tally, &confirmed)?;
+        tally.note("an ACK at every room after a confirmation", true);
     }
     Ok(())
 }
@@ -33,10 +36,15 @@ pub fn made_up(random: &mut Random, tally: &mut Tally) -> Result<(), String> {
 /// A receiver is opened, and each of many calls is given the record that the call before handed back.
 pub fn grown(random: &mut Random, tally: &mut Tally) -> Result<(), String> {
     let mut given = compare_open(random, tally)?;
+    let mut accepted = Vec::new();
     for _ in 0..random.between(1, 120) {
         let record = record_of(&given);
         given = match random.below(22) {
-            0..=13 => compare_packet(random, tally, &given, &record)?,
+            0..=13 => {
+                let (next, carried) = compare_packet(random, tally, &given, &record)?;
+                accepted.extend(carried);
+                next
+            }
             14 => compare_timer(random, tally, &given, &record)?,
             15 => compare_threshold(random, tally, &given, &record)?,
             16 => compare_immediate(tally, &given, &record)?,
@@ -44,7 +52,7 @@ pub fn grown(random: &mut Random, tally: &mut Tally) -> Result<(), String> {
             _ => compare_write(random, tally, &given, &record)?,
         };
     }
-    Ok(())
+    judge_totals(&given, &accepted)
 }
 
 /// What the archive is to answer: the next record, or on any refusal the record exactly as it was given.
@@ -90,7 +98,7 @@ fn packet_number(random: &mut Random, record: &Record) -> u64 {
 }
 
 /// Times around the moments that the record knows.
-fn time(random: &mut Random, record: &Record) -> u64 {
+pub fn time(random: &mut Random, record: &Record) -> u64 {
     let known = [record.pending_first.saturating_add(record.delay), record.pending_first, record.arrived];
     match random.below(40) {
         0 => argument(random),
@@ -99,24 +107,38 @@ fn time(random: &mut Random, record: &Record) -> u64 {
     }
 }
 
-fn compare_packet(random: &mut Random, tally: &mut Tally, given: &Receiver, record: &Record) -> Result<Receiver, String> {
+/// An ECN field: each mark, alone or in a traffic class byte, or with any bits above it.
+fn ecn(random: &mut Random) -> u64 {
+    let above = random.any() >> random.one_of(&[0, 56]);
+    random.below(4) | if random.chance(300) { above & !3 } else { 0 }
+}
+
+/// Gives the next record, and the mark of a packet that was accepted.
+fn compare_packet(
+    random: &mut Random,
+    tally: &mut Tally,
+    given: &Receiver,
+    record: &Record,
+) -> Result<(Receiver, Option<Mark>), String> {
     let (number, time) = (packet_number(random, record), time(random, record));
-    let (eliciting, marked) = (random.chance(800), random.chance(300));
-    let papers = wanted(given, packet(record.clone(), number, time, eliciting, marked));
-    let archive = unsafe { lumbixet_packet(*given, number, time, eliciting, marked) };
-    let call = Call { name: "packet", result: papers.result, given: &(number, time, eliciting, marked, given) };
+    let (eliciting, ecn) = (random.chance(800), ecn(random));
+    let carried = mark_of_ecn(ecn);
+    let papers = wanted(given, packet(record.clone(), number, time, eliciting, carried));
+    let archive = unsafe { lumbixet_packet(*given, number, time, eliciting, ecn) };
+    let call = Call { name: "packet", result: papers.result, given: &(number, time, eliciting, ecn, given) };
     tally.compare(call, papers, archive)?;
     tally.note_cause(&archive);
+    note_mark(tally, record, &papers, eliciting, ecn);
     let below = papers.result == BELOW_WINDOW;
     tally.note("7 though it was received and lies within 1,024 of L", below && record.received.contains(&number));
     let by_window = below && record.confirmed < record.window_floor() && number < record.window_floor();
     tally.note("7 below the window's own floor, which is the larger", by_window);
     if papers.result == ACCEPTED && papers.next.cause == NOT_DUE && record.confirmed > record.window_floor() {
         let unconfirmed = Record { confirmed: 0, ..record.clone() };
-        let cause = packet(unconfirmed, number, time, eliciting, marked).1.cause;
+        let cause = packet(unconfirmed, number, time, eliciting, carried).1.cause;
         tally.note("nothing due, where a gap below the record's floor would be", cause == ORDER);
     }
-    Ok(archive.next)
+    Ok((archive.next, Some(carried).filter(|_| papers.result == ACCEPTED)))
 }
 
 fn compare_timer(random: &mut Random, tally: &mut Tally, given: &Receiver, record: &Record) -> Result<Receiver, String> {
@@ -180,52 +202,52 @@ fn compare_confirm(random: &mut Random, tally: &mut Tally, given: &Receiver, rec
     Ok(archive.next)
 }
 
-/// From no room to room for all ranges and more; each write goes on from the same record.
-fn write_at_every_room(random: &mut Random, tally: &mut Tally, given: &Receiver) -> Result<(), String> {
-    let record = record_of(given);
-    let time = time(random, &record).min(LARGEST);
-    let (_, all, _) = write(record.clone(), time, &mut [0; 1200]);
-    for length in 0..all + 3 {
-        compare_write_in(random, tally, given, &record, time, length)?;
-    }
-    tally.note("an ACK at every room after a confirmation", true);
-    Ok(())
-}
-
 /// Room for nothing, for the first range, for all ranges, or for some of them.
 fn room(random: &mut Random, record: &Record) -> usize {
-    let all = 30 + 2 * record.ranges().len() as u64;
+    let all = 60 + 2 * record.ranges().len() as u64;
     match random.below(4) {
         0 => random.below(12) as usize,
-        1 => random.between(20, 30) as usize,
+        1 => random.between(12, 60) as usize,
         2 => random.below(all + 1) as usize,
         _ => random.one_of(&[1200, 2400]),
     }
 }
 
 fn compare_write(random: &mut Random, tally: &mut Tally, given: &Receiver, record: &Record) -> Result<Receiver, String> {
-    let time = time(random, record);
-    let length = room(random, record);
-    compare_write_in(random, tally, given, record, time, length)
+    let choice = Choice { time: time(random, record), counts: random.chance(500), room: room(random, record) };
+    compare_write_in(random, tally, given, record, choice).map(|wrote| wrote.next)
 }
 
-fn compare_write_in(
+/// What the caller of a write chooses.
+#[derive(Clone, Copy, Debug)]
+pub struct Choice {
+    pub time: u64,
+    /// Whether the frame is of type 03.
+    pub counts: bool,
+    pub room: usize,
+}
+
+/// Gives what both answered.
+pub fn compare_write_in(
     random: &mut Random,
     tally: &mut Tally,
     given: &Receiver,
     record: &Record,
-    time: u64,
-    length: usize,
-) -> Result<Receiver, String> {
-    let mut papers_lent = Lent::new(random, length);
-    let mut archive_lent = Lent { memory: papers_lent.memory.clone(), length };
-    let (result, used, next) = write(record.clone(), time, papers_lent.buffer());
+    choice: Choice,
+) -> Result<Wrote, String> {
+    let Choice { time, counts, room } = choice;
+    let mut papers_lent = Lent::new(random, room);
+    let mut archive_lent = Lent { memory: papers_lent.memory.clone(), length: room };
+    let (result, used, next) = write(record.clone(), time, counts, papers_lent.buffer());
     let answer = wanted(given, (result, next));
     let papers = Wrote { result, length: used as u64, next: answer.next };
-    let archive = unsafe { lumbixet_write(*given, time, archive_lent.buffer().as_mut_ptr(), length) };
-    let call = Call { name: "write", result, given: &(time, length, given) };
+    let archive = unsafe { lumbixet_write(*given, time, counts, archive_lent.buffer().as_mut_ptr(), room) };
+    if result == ACCEPTED {
+        read_back(random, tally, record, counts, &papers_lent.buffer()[..used])?;
+    }
+    let call = Call { name: if counts { "write 03" } else { "write 02" }, result, given: &(choice, given) };
     tally.compare(call, (papers, papers_lent.memory), (archive, archive_lent.memory))?;
     let left_out = result == ACCEPTED && record.received.range(..record.confirmed).next().is_some();
     tally.note("an ACK without numbers that the record's floor leaves out", left_out);
-    Ok(archive.next)
+    Ok(papers)
 }

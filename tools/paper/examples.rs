@@ -3,12 +3,13 @@
 
 use crate::example_lines::Examples;
 use crate::replay;
-use crate::{examples_receiver, examples_report, examples_tracker, examples_wire};
+use crate::{examples_counts, examples_receiver, examples_report, examples_tracker, examples_wire};
 
 pub fn run() -> Result<(), String> {
     let mut examples = Examples::default();
     examples_wire::check(&mut examples);
     examples_receiver::check(&mut examples);
+    examples_counts::check(&mut examples);
     examples_report::check(&mut examples);
     examples_tracker::check(&mut examples);
     replays(&mut examples);

@@ -74,7 +74,7 @@ fn acks(examples: &mut Examples) {
     examples.check("02 05 00 01 02 00 01 is 3 to 5, 0 to 1", ranges, Ok(vec![(3, 5), (0, 1)]));
     let longer = read_ack(&hex("02 40 05 80 00 00 00 40 01 02 40 00 01")).map(|ack| ack.ranges);
     examples.check("its fields may come in longer forms", longer, Ok(vec![(3, 5), (0, 1)]));
-    for (bytes, result) in [("40 02", 3), ("03", 3), ("02 05 00 01 04 02", 14), ("02 05 00 00 06", 14), ("02 05 00 01 02 00", 2)]
+    for (bytes, result) in [("40 02", 3), ("04", 3), ("02 05 00 01 04 02", 14), ("02 05 00 00 06", 14), ("02 05 00 01 02 00", 2)]
     {
         examples.check(&format!("'{bytes}' as ACK gives {result}"), read_ack(&hex(bytes)), Err(result));
     }

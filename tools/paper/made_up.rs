@@ -3,7 +3,7 @@
 use crate::archive::{place, raw_of, Receiver};
 use crate::numbers::LARGEST;
 use crate::random::Random;
-use crate::record::{Record, WINDOW};
+use crate::record::{Record, Totals, WINDOW};
 use std::collections::BTreeSet;
 
 /// A number up to a last one, often near an edge.
@@ -61,7 +61,14 @@ pub fn consistent(random: &mut Random) -> Record {
         minimum_us,
         sequence: if random.chance(300) { None } else { Some(up_to(random, LARGEST)) },
         cause: if largest.is_none() || random.chance(700) { 0 } else { random.below(6) },
+        totals: totals(random),
     }
+}
+
+/// Nothing is asked of the four but that each obeys 5: also of a record that received nothing.
+fn totals(random: &mut Random) -> Totals {
+    let [ect0, ect1, ce, unmarked] = [(); 4].map(|()| up_to(random, LARGEST));
+    Totals { ect0, ect1, ce, unmarked }
 }
 
 fn largest(random: &mut Random) -> u64 {
@@ -138,6 +145,10 @@ fn any_bytes(random: &mut Random) -> Receiver {
         &mut raw.highest,
         &mut raw.ce,
         &mut raw.cause,
+        &mut raw.total_ect0,
+        &mut raw.total_ect1,
+        &mut raw.total_ce,
+        &mut raw.total_unmarked,
     ];
     for field in fields {
         *field = random.any() >> random.below(64);
@@ -150,7 +161,7 @@ fn break_one_clause(random: &mut Random, raw: &mut Receiver) {
     let above = random.one_of(&[LARGEST + 1, LARGEST + 2, u64::MAX]);
     let above_end = random.one_of(&[LARGEST + 2, LARGEST + 3, u64::MAX]);
     let past = raw.end + random.between(1, 3);
-    match random.below(27) {
+    match random.below(31) {
         0 => raw.arrived = above,
         1 => raw.pending_first = above,
         2 => raw.threshold = above,
@@ -178,6 +189,10 @@ fn break_one_clause(random: &mut Random, raw: &mut Receiver) {
         // L is the end less one: the first of these is one above L
         24 => raw.confirmed = raw.end.saturating_add(random.below(3)),
         25 => raw.confirmed = random.one_of(&[above, above_end]),
+        26 => raw.total_ect0 = above,
+        27 => raw.total_ect1 = above,
+        28 => raw.total_ce = above,
+        29 => raw.total_unmarked = above,
         _ => raw.cause = random.below(6),
     }
 }

@@ -13,6 +13,8 @@ mod compare_archive;
 #[cfg(archive)]
 mod compare_codec;
 #[cfg(archive)]
+mod compare_counts;
+#[cfg(archive)]
 mod compare_forms;
 #[cfg(archive)]
 mod compare_receiver;
@@ -24,6 +26,7 @@ mod compare_tracker;
 mod compare_week;
 mod example_lines;
 mod examples;
+mod examples_counts;
 mod examples_receiver;
 mod examples_report;
 mod examples_tracker;

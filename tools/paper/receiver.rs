@@ -1,9 +1,9 @@
-//! Document 01, "The receiver record", and document 02, No. 12: the calls. Each takes the record by value and hands the next
-//! one back.
+//! Document 01, "The receiver record", and document 02, No. 2 and No. 12: the calls. Each takes the record by value and hands
+//! the next one back.
 
-use crate::frames::ack_that_fits;
+use crate::frames::{ack_that_fits, Counts};
 use crate::numbers::{judge_numbers, LARGEST};
-use crate::record::{delay_obeys, own_delays_obey, Record};
+use crate::record::{delay_obeys, own_delays_obey, Mark, Record, Totals};
 use crate::refusals::*;
 use std::collections::BTreeSet;
 
@@ -73,13 +73,15 @@ fn opened(threshold: u64, reordering: u64, maximum_ms: u64, minimum_us: u64) -> 
         minimum_us,
         sequence: None,
         cause: NOT_DUE,
+        totals: Totals::default(),
     }
 }
 
-/// "Packet (number, time, ack-eliciting or not, CE or not)."
-pub fn packet(record: Record, number: u64, time: u64, eliciting: bool, marked: bool) -> Answer {
+/// "Packet (number, time, ack-eliciting or not, CE or not)."; by document 02, No. 2, with one of four marks.
+pub fn packet(record: Record, number: u64, time: u64, eliciting: bool, carried: Mark) -> Answer {
     let judged = judge(&record, &[number, time]).and_then(|()| judge_place(&record, number));
     answer(record, judged, |next| {
+        let marked = carried == Mark::Ce;
         let earlier_highest = next.highest;
         // "Until the first threshold frame is accepted, every accepted ack-eliciting packet with CE sets cause 4; from then on
         // the start-of-run rule holds" (document 02, No. 1): "the previously accepted packet, of either kind, had not, or there was none"
@@ -95,6 +97,9 @@ pub fn packet(record: Record, number: u64, time: u64, eliciting: bool, marked: b
             }
         }
         next.ce = u64::from(marked);
+        // "totals of accepted packets", of either kind; "A total stays at 2^62 - 1."
+        let total = next.totals.of(carried);
+        *total = (*total + 1).min(LARGEST);
     })
 }
 
@@ -233,11 +238,14 @@ pub fn threshold(record: Record, sequence: u64, threshold: u64, delay_us: u64, r
 }
 
 /// "Write (time, room) emits an ACK with largest L, delay one eighth (rounded down) of the microseconds since L arrived, and
-/// as many newest ranges of the window as fit", from the floor up. Gives the frame's length too; "Bytes after the frame stay."
-pub fn write(record: Record, time: u64, buffer: &mut [u8]) -> (u64, usize, Record) {
+/// as many newest ranges of the window as fit", from the floor up. "The caller chooses 02 or 03 at the write" (document 02,
+/// No. 2). Gives the frame's length too; "Bytes after the frame stay."
+pub fn write(record: Record, time: u64, with_counts: bool, buffer: &mut [u8]) -> (u64, usize, Record) {
     let frame = judge(&record, &[time]).and_then(|()| judge_received(&record)).and_then(|()| {
         let delay = time.saturating_sub(record.arrived) / 8;
-        ack_that_fits(delay, &record.ranges(), buffer.len())
+        let Totals { ect0, ect1, ce, .. } = record.totals;
+        let counts = Some(Counts { ect0, ect1, ce }).filter(|_| with_counts);
+        ack_that_fits(delay, &record.ranges(), counts, buffer.len())
     });
     let length = frame.as_ref().map_or(0, Vec::len);
     if let Ok(bytes) = &frame {

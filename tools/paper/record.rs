@@ -1,5 +1,5 @@
 //! Document 01, "The receiver record": what the record knows, and when it is consistent. The floor that the sender's
-//! confirmations raise is document 02, No. 12.
+//! confirmations raise is document 02, No. 12; the totals of marks are No. 2.
 
 use crate::numbers::LARGEST;
 use std::collections::BTreeSet;
@@ -10,6 +10,39 @@ pub const WINDOW: u64 = 1024;
 const TOO_LONG_MS: u64 = 16_384;
 /// "A requested delay must be below 16,384,000 microseconds"
 const TOO_LONG_US: u64 = 16_384_000;
+
+/// "Packets carry one of four marks, none being the fourth." (document 02, No. 2)
+#[derive(Clone, Copy, Debug, PartialEq, Eq)]
+pub enum Mark {
+    Ect0,
+    Ect1,
+    Ce,
+    Unmarked,
+}
+
+/// "totals of accepted packets marked ECT(0), ECT(1) and CE, and of unmarked ones" (document 02, No. 2)
+#[derive(Clone, Copy, Debug, Default, PartialEq, Eq)]
+pub struct Totals {
+    pub ect0: u64,
+    pub ect1: u64,
+    pub ce: u64,
+    pub unmarked: u64,
+}
+
+impl Totals {
+    pub fn of(&mut self, mark: Mark) -> &mut u64 {
+        match mark {
+            Mark::Ect0 => &mut self.ect0,
+            Mark::Ect1 => &mut self.ect1,
+            Mark::Ce => &mut self.ce,
+            Mark::Unmarked => &mut self.unmarked,
+        }
+    }
+
+    pub fn all(&self) -> [u64; 4] {
+        [self.ect0, self.ect1, self.ce, self.unmarked]
+    }
+}
 
 #[derive(Clone, Debug, PartialEq, Eq)]
 pub struct Record {
@@ -49,6 +82,8 @@ pub struct Record {
     pub sequence: Option<u64>,
     /// "the due cause": 0 none, 1 IMMEDIATE_ACK, 2 count, 3 order, 4 congestion, 5 timer.
     pub cause: u64,
+    /// "The receiver record gains totals" (document 02, No. 2).
+    pub totals: Totals,
 }
 
 /// "Delay rule: the maximum is below 16,384 ms, and the minimum is not above it."
@@ -114,12 +149,12 @@ impl Record {
             && self.floor_agrees()
     }
 
-    /// "every number and time obeys 5"
+    /// "every number and time obeys 5"; "1 also for a total above that", which is 2^62 - 1 (document 02, No. 2)
     fn numbers_obey(&self) -> bool {
         let always =
             [self.arrived, self.pending_first, self.threshold, self.reordering, self.delay, self.maximum_ms, self.minimum_us];
         let absent_or = [self.largest, self.acknowledged, self.highest, self.pending_largest, self.sequence];
-        always.iter().chain(absent_or.iter().flatten()).all(|number| *number <= LARGEST)
+        always.iter().chain(absent_or.iter().flatten()).chain(&self.totals.all()).all(|number| *number <= LARGEST)
     }
 
     /// "A, H and U are each absent or at most L; U is absent exactly when N is 0"; with nothing received they "are absent

@@ -1,8 +1,8 @@
-//! Document 01, "The replay program": event records of 24 bytes to lines.
+//! Document 01, "The replay program", with the marks of document 02, No. 2: event records of 24 bytes to lines.
 
 use crate::numbers::high_first;
 use crate::receiver::{immediate, open, packet, timer, write};
-use crate::record::Record;
+use crate::record::{Mark, Record};
 use crate::refusals::{ENDS, OTHER_TYPE};
 use std::io::{self, Read, Write};
 
@@ -12,7 +12,22 @@ pub const TIMER: u8 = 2;
 pub const WRITE: u8 = 3;
 pub const IMMEDIATE: u8 = 4;
 pub const ELICITING: u8 = 1;
-pub const MARKED: u8 = 2;
+pub const CE: u8 = 2;
+pub const ECT0: u8 = 4;
+pub const ECT1: u8 = 8;
+
+/// "In the replay's flags 2 is CE, 4 ECT(0), 8 ECT(1); with several set, the first of these counts." (document 02, No. 2)
+pub fn mark_of(flags: u8) -> Mark {
+    if flags & CE != 0 {
+        Mark::Ce
+    } else if flags & ECT0 != 0 {
+        Mark::Ect0
+    } else if flags & ECT1 != 0 {
+        Mark::Ect1
+    } else {
+        Mark::Unmarked
+    }
+}
 
 /// A replay under way: it answers each event with the result and the cause afterwards.
 pub struct Replay {
@@ -36,16 +51,16 @@ impl Replay {
     }
 
     /// "kind (1 packet, 2 timer, 3 write, 4 IMMEDIATE_ACK), flags (1 ack-eliciting, 2 CE; others ignored), six ignored bytes,
-    /// number, time, each 8 bytes high first"
+    /// number, time, each 8 bytes high first"; 4 and 8 are no longer ignored
     fn whole_event(&mut self, record: Record, event: &[u8]) -> (u64, Record) {
         let (kind, flags) = (event[0], event[1]);
         let number = high_first(&event[8..16]);
         let time = high_first(&event[16..24]);
         match kind {
-            PACKET => packet(record, number, time, flags & ELICITING != 0, flags & MARKED != 0),
+            PACKET => packet(record, number, time, flags & ELICITING != 0, mark_of(flags)),
             TIMER => timer(record, time),
             WRITE => {
-                let (result, _, next) = write(record, time, &mut self.room);
+                let (result, _, next) = write(record, time, false, &mut self.room);
                 (result, next)
             }
             IMMEDIATE => immediate(record),

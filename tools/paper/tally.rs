@@ -7,13 +7,14 @@ use std::collections::BTreeMap;
 use std::fmt::Debug;
 
 /// Each call with every result that it can give.
-const CAN_GIVE: [(&str, &[u64]); 22] = [
+const CAN_GIVE: [(&str, &[u64]); 23] = [
     ("open", &[0, 5, 4]),
     ("packet", &[0, 1, 5, 6, 7]),
     ("timer", &[0, 1, 5]),
     ("threshold", &[0, 1, 5, 4, 255]),
     ("immediate", &[0, 1, 8]),
-    ("write", &[0, 1, 5, 8, 9]),
+    ("write 02", &[0, 1, 5, 8, 9]),
+    ("write 03", &[0, 1, 5, 8, 9]),
     ("confirm", &[0, 1, 5, 8, 19]),
     ("read_number", &[0, 2]),
     ("put_number", &[0, 5, 9]),
@@ -33,7 +34,7 @@ const CAN_GIVE: [(&str, &[u64]); 22] = [
 ];
 
 /// What must have happened in accepted and refused calls beyond their results.
-const MOMENTS: [&str; 42] = [
+const MOMENTS: [&str; 68] = [
     "1 for nothing but a floor above L",
     "1 for nothing but a floor while nothing was received",
     "7 though it was received and lies within 1,024 of L",
@@ -44,6 +45,32 @@ const MOMENTS: [&str; 42] = [
     "an ACK without numbers that the record's floor leaves out",
     "an ACK at every room after a confirmation",
     "nothing due, where a gap below the record's floor would be",
+    "1 for nothing but a total of ECT(0) above its limit",
+    "1 for nothing but a total of ECT(1) above its limit",
+    "1 for nothing but a total of CE above its limit",
+    "1 for nothing but a total of unmarked ones above its limit",
+    "a total that reaches 2^62 - 1",
+    "a total that stays at 2^62 - 1",
+    "a mark counted of a packet that is not ack-eliciting",
+    "a mark with other bits above it",
+    "ECT(0) counted",
+    "ECT(1) counted",
+    "CE counted",
+    "a packet without a mark counted",
+    "02 and 03 at every room",
+    "9 for 03 in a room that holds 02",
+    "03 with fewer ranges than 02 in the same room",
+    "03 written with a count of 1 byte",
+    "03 written with a count of 2 bytes",
+    "03 written with a count of 4 bytes",
+    "03 written with a count of 8 bytes",
+    "03 read with a count of 1 byte",
+    "03 read with a count of 2 bytes",
+    "03 read with a count of 4 bytes",
+    "03 read with a count of 8 bytes",
+    "03 cut at every byte",
+    "2 inside the counts of 03, before 9",
+    "3 for 03 in a longer form",
     "15 for one longer form alone",
     "15 for the first of two longer forms",
     "15 at lost, before 11",

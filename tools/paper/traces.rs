@@ -3,7 +3,7 @@
 use crate::numbers::LARGEST;
 use crate::random::Random;
 use crate::receiver::NOT_DUE;
-use crate::replay::{Replay, ELICITING, EVENT, IMMEDIATE, MARKED, PACKET, TIMER, WRITE};
+use crate::replay::{Replay, CE, ELICITING, EVENT, IMMEDIATE, PACKET, TIMER, WRITE};
 
 /// How a line behaves. Chances are in thousandths for each number sent.
 #[derive(Clone, Copy)]
@@ -80,8 +80,8 @@ struct Trace {
 impl Trace {
     fn event(&mut self, random: &mut Random, kind: u8, flags: u8, number: u64) {
         let start = self.bytes.len();
-        // flags and bytes that are to be ignored hold anything
-        self.bytes.extend_from_slice(&[kind, flags | (random.any() as u8 & !(ELICITING | MARKED))]);
+        // bytes that are to be ignored hold anything, and so do the flags that make nothing due, ECT(0) and ECT(1) among them
+        self.bytes.extend_from_slice(&[kind, flags | (random.any() as u8 & !(ELICITING | CE))]);
         self.bytes.extend(random.bytes(6));
         self.bytes.extend_from_slice(&number.to_be_bytes());
         self.bytes.extend_from_slice(&self.now.to_be_bytes());
@@ -90,7 +90,7 @@ impl Trace {
 
     fn packet(&mut self, random: &mut Random, line: &Line, number: u64) {
         let eliciting = if random.chance(line.quiet) { 0 } else { ELICITING };
-        let marked = if self.in_run { MARKED } else { 0 };
+        let marked = if self.in_run { CE } else { 0 };
         self.event(random, PACKET, eliciting | marked, number);
         if self.cause != NOT_DUE && random.chance(line.heed) {
             self.now += random.below(400);

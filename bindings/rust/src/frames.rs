@@ -4,7 +4,7 @@ use core::ops::RangeInclusive;
 
 use crate::raw;
 use crate::refusal::accepted;
-use crate::{Micros, Refusal};
+use crate::{Counts, Micros, Refusal};
 
 /// Reads the number at the start; longer forms than needed are accepted.
 ///
@@ -85,7 +85,7 @@ impl Immediate {
     }
 }
 
-/// An ACK frame of type 02 that was read. Its ranges stand in the lent slice.
+/// An ACK frame of type 02 or 03 that was read. Its ranges stand in the lent slice.
 #[derive(Clone, Copy, Debug, PartialEq, Eq)]
 pub struct Ack<'a> {
     /// The largest acknowledged number.
@@ -94,6 +94,8 @@ pub struct Ack<'a> {
     pub delay: u64,
     /// Smallest and largest of each range, newest range first.
     pub pairs: &'a [u64],
+    /// Of type 03, the counts of marks; `None` of type 02.
+    pub counts: Option<Counts>,
 }
 
 impl<'a> Ack<'a> {
@@ -106,8 +108,10 @@ impl<'a> Ack<'a> {
         let (room, lent) = (ranges.len(), ranges.as_mut_ptr());
         let frame = unsafe { raw::lumbixet_read_ack(bytes.as_ptr(), bytes.len(), lent, room) };
         accepted(frame.result)?;
-        let pairs = &ranges[..2 * frame.ranges as usize];
-        Ok((Ack { largest: frame.largest, delay: frame.delay, pairs }, &bytes[frame.used as usize..]))
+        let raw::AckFrame { largest, delay, ranges: count, used, counts, ect0, ect1, ce, .. } = frame;
+        let pairs = &ranges[..2 * count as usize];
+        let counts = (counts != 0).then_some(Counts { ect0, ect1, ce });
+        Ok((Ack { largest, delay, pairs, counts }, &bytes[used as usize..]))
     }
 
     /// The ranges of acknowledged numbers, newest first.

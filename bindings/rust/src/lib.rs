@@ -8,16 +8,18 @@
 //! docs/DRIVING.md shows the order of calls, docs/TRACKING.md that of the tracker.
 //!
 //! ```
-//! use lumbixet::{Cause, Micros, Millis, Packet, Receiver, ACK_ROOM};
+//! use lumbixet::{Cause, Mark, Micros, Millis, Packet, Receiver, ACK_ROOM};
 //! # fn main() -> Result<(), lumbixet::Refusal> {
 //! let mut receiver = Receiver::open(1000, 3, Millis(25), Micros(1000))?;
-//! let packet = |number, time| Packet { number, time: Micros(time), eliciting: true, marked: false };
+//! let packet = |number, time| Packet { number, time: Micros(time), eliciting: true, mark: Mark::Ect0 };
 //! assert_eq!(receiver.packet(packet(0, 1000))?, None);
 //! assert_eq!(receiver.wake(), Some(Micros(26000)));
 //! assert_eq!(receiver.packet(packet(4, 2000))?, Some(Cause::Order)); // 1 to 3 are missing
 //! let mut buffer = [0; ACK_ROOM];
 //! let frame = receiver.write(Micros(2000), &mut buffer)?;
 //! assert_eq!(frame, [0x02, 4, 0, 1, 0, 2, 0]);
+//! let frame = receiver.write_with_counts(Micros(2000), &mut buffer)?; // the same, then ECT(0), ECT(1), CE
+//! assert_eq!(frame, [0x03, 4, 0, 1, 0, 2, 0, 2, 0, 0]);
 //! # Ok(())
 //! # }
 //! ```
@@ -28,6 +30,7 @@
 extern crate std;
 
 mod frames;
+mod marks;
 pub mod raw;
 mod receiver;
 mod refusal;
@@ -35,6 +38,7 @@ mod report;
 mod tracker;
 
 pub use frames::{read_number, write_number, Ack, Frequency, Immediate};
+pub use marks::{Counts, Mark, Totals};
 pub use receiver::{Heard, Packet, Receiver};
 pub use refusal::{Cause, Refusal};
 pub use report::{Entries, Entry, Header, Metrics, Report, Status, Written};
@@ -51,8 +55,8 @@ pub struct Millis(pub u64);
 /// The largest number, threshold and time: 2^62 - 1.
 pub const LARGEST: u64 = (1 << 62) - 1;
 
-/// Bytes that hold an ACK frame with every range of the window, at any time.
-pub const ACK_ROOM: usize = 1042;
+/// Bytes that hold an ACK frame with counts and every range of the window, at any time.
+pub const ACK_ROOM: usize = 1066;
 
 /// Bytes that hold every ACK_FREQUENCY frame.
 pub const FREQUENCY_ROOM: usize = 34;

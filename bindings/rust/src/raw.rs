@@ -39,6 +39,14 @@ pub struct Receiver {
     pub ce: u64,
     /// Why an acknowledgment is due.
     pub cause: u64,
+    /// Accepted packets that were marked ECT(0); this and the next three stay at 2^62 - 1.
+    pub total_ect0: u64,
+    /// Accepted packets that were marked ECT(1).
+    pub total_ect1: u64,
+    /// Accepted packets that were marked CE.
+    pub total_ce: u64,
+    /// Accepted packets without a mark.
+    pub total_unmarked: u64,
 }
 
 /// `lumbixet_answer`: a call's result and the next record.
@@ -102,7 +110,7 @@ pub struct ImmediateFrame {
     pub used: u64,
 }
 
-/// `lumbixet_ack`: an ACK frame's numbers; its ranges stand in the lent slice.
+/// `lumbixet_ack`: an ACK frame's numbers; its ranges stand in the lent slice. The last three are counts where `counts` is 1.
 #[repr(C)]
 #[derive(Clone, Copy, Debug, Default, PartialEq, Eq)]
 #[allow(missing_docs)]
@@ -112,6 +120,10 @@ pub struct AckFrame {
     pub delay: u64,
     pub ranges: u64,
     pub used: u64,
+    pub counts: u64,
+    pub ect0: u64,
+    pub ect1: u64,
+    pub ce: u64,
 }
 
 /// `lumbixet_header`: the summary of a report, and its metrics.
@@ -200,12 +212,12 @@ extern "C" {
     ) -> Put;
     pub fn lumbixet_put_immediate(buffer: *mut u8, length: usize) -> Put;
     pub fn lumbixet_open(threshold: u64, reordering: u64, maximum_ms: u64, minimum_us: u64) -> Answer;
-    pub fn lumbixet_packet(receiver: Receiver, number: u64, time_us: u64, eliciting: bool, marked: bool) -> Answer;
+    pub fn lumbixet_packet(receiver: Receiver, number: u64, time_us: u64, eliciting: bool, ecn: u64) -> Answer;
     pub fn lumbixet_timer(receiver: Receiver, time_us: u64) -> Answer;
     pub fn lumbixet_threshold(receiver: Receiver, sequence: u64, threshold: u64, delay_us: u64, reordering: u64) -> Answer;
     pub fn lumbixet_immediate(receiver: Receiver) -> Answer;
     pub fn lumbixet_confirm(receiver: Receiver, largest: u64) -> Answer;
-    pub fn lumbixet_write(receiver: Receiver, time_us: u64, buffer: *mut u8, length: usize) -> Wrote;
+    pub fn lumbixet_write(receiver: Receiver, time_us: u64, counts: bool, buffer: *mut u8, length: usize) -> Wrote;
     pub fn lumbixet_read_report(bytes: *const u8, length: usize) -> Report;
     pub fn lumbixet_find_entries(bytes: *const u8, length: usize) -> Entries;
     pub fn lumbixet_read_entry(entries: *const u8, length: usize, index: usize) -> EntryFound;

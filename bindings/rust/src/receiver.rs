@@ -2,7 +2,7 @@
 
 use crate::raw;
 use crate::refusal::accepted;
-use crate::{Cause, Frequency, Micros, Millis, Refusal};
+use crate::{Cause, Frequency, Mark, Micros, Millis, Refusal, Totals};
 
 /// `LUMBIXET_STALE`, the result of an obsolete threshold frame.
 const STALE: u64 = 255;
@@ -26,8 +26,8 @@ pub struct Packet {
     pub time: Micros,
     /// Whether it is ack-eliciting.
     pub eliciting: bool,
-    /// Whether it had the CE mark.
-    pub marked: bool,
+    /// The mark that it carried.
+    pub mark: Mark,
 }
 
 /// The receiver of one packet number space. A refused call leaves it as it was.
@@ -51,8 +51,8 @@ impl Receiver {
     /// # Errors
     /// [`Refusal::Inconsistent`], [`Refusal::TooLarge`], then [`Refusal::Repeated`] or [`Refusal::BelowWindow`].
     pub fn packet(&mut self, packet: Packet) -> Result<Option<Cause>, Refusal> {
-        let Packet { number, time, eliciting, marked } = packet;
-        self.take(unsafe { raw::lumbixet_packet(self.record, number, time.0, eliciting, marked) })
+        let Packet { number, time, eliciting, mark } = packet;
+        self.take(unsafe { raw::lumbixet_packet(self.record, number, time.0, eliciting, mark.ecn()) })
     }
 
     /// The timer is looked at. Says why an acknowledgment is due now, if one is.
@@ -93,13 +93,26 @@ impl Receiver {
         self.take(unsafe { raw::lumbixet_confirm(self.record, largest) }).map(|_| ())
     }
 
-    /// Writes an ACK frame at the start of the buffer, with as many newest ranges as fit, and gives the frame's bytes.
-    /// It may be written whether one is due or not. [`ACK_ROOM`](crate::ACK_ROOM) bytes hold all ranges.
+    /// Writes an ACK frame of type 02 at the start of the buffer, with as many newest ranges as fit, and gives the frame's
+    /// bytes. It may be written whether one is due or not. [`ACK_ROOM`](crate::ACK_ROOM) bytes hold all ranges.
     ///
     /// # Errors
     /// [`Refusal::Inconsistent`], [`Refusal::TooLarge`], [`Refusal::NothingYet`], [`Refusal::NoRoom`].
     pub fn write<'a>(&mut self, now: Micros, buffer: &'a mut [u8]) -> Result<&'a [u8], Refusal> {
-        let wrote = unsafe { raw::lumbixet_write(self.record, now.0, buffer.as_mut_ptr(), buffer.len()) };
+        self.write_as(now, false, buffer)
+    }
+
+    /// Writes an ACK frame of type 03: as [`write`](Receiver::write), and behind the ranges the counts of
+    /// [`totals`](Receiver::totals), which take of the room.
+    ///
+    /// # Errors
+    /// As [`write`](Receiver::write).
+    pub fn write_with_counts<'a>(&mut self, now: Micros, buffer: &'a mut [u8]) -> Result<&'a [u8], Refusal> {
+        self.write_as(now, true, buffer)
+    }
+
+    fn write_as<'a>(&mut self, now: Micros, counts: bool, buffer: &'a mut [u8]) -> Result<&'a [u8], Refusal> {
+        let wrote = unsafe { raw::lumbixet_write(self.record, now.0, counts, buffer.as_mut_ptr(), buffer.len()) };
         accepted(wrote.result)?;
         self.record = wrote.next;
         Ok(&buffer[..wrote.length as usize])
@@ -124,6 +137,12 @@ impl Receiver {
     #[must_use]
     pub fn confirmed(&self) -> u64 {
         self.record.confirmed
+    }
+
+    /// How many accepted packets, ack-eliciting or not, carried each mark.
+    #[must_use]
+    pub fn totals(&self) -> Totals {
+        Totals::of(&self.record)
     }
 
     /// The ack-eliciting threshold in force.

@@ -16,7 +16,7 @@ fn empty_slices() {
     let mut receiver = Receiver::default();
     assert_eq!(receiver.write(Micros(0), &mut []), Err(Refusal::NothingYet));
     assert_eq!(receiver.confirm(0), Err(Refusal::NothingYet));
-    assert_eq!(receiver.packet(Packet { number: 0, time: Micros(0), eliciting: true, marked: false }), Ok(None));
+    assert_eq!(receiver.packet(Packet { number: 0, time: Micros(0), eliciting: true, mark: Mark::None }), Ok(None));
     assert_eq!(receiver.write(Micros(0), &mut []), Err(Refusal::NoRoom));
     assert_eq!(read_number(&[]), Err(Refusal::Ends));
     assert_eq!(write_number(0, &mut []), Err(Refusal::NoRoom));
@@ -95,7 +95,7 @@ fn kept_and_made_up_records() {
 #[test]
 fn confirmations() {
     let mut receiver = Receiver::open(1, 0, Millis(25), Micros(1000)).unwrap();
-    let packet = |number| Packet { number, time: Micros(0), eliciting: true, marked: false };
+    let packet = |number| Packet { number, time: Micros(0), eliciting: true, mark: Mark::None };
     let mut buffer = [0; ACK_ROOM];
     assert_eq!((receiver.packet(packet(0)), receiver.packet(packet(2))), (Ok(None), Ok(Some(Cause::Count))));
     assert_eq!(receiver.confirm(0), Err(Refusal::NotAcknowledged));
@@ -111,6 +111,37 @@ fn confirmations() {
     assert_eq!(receiver.write(Micros(0), &mut buffer), Ok(&[0x02, 5, 0, 0, 1][..]));
     assert_eq!((receiver.confirm(5), receiver.confirmed()), (Ok(()), 5));
     assert_eq!(receiver.packet(packet(5)), Err(Refusal::Repeated));
+}
+
+/// Each mark has its own total, refused packets count nowhere, and an ACK of type 03 tells three of the four.
+#[test]
+fn marks_are_counted() {
+    let mut receiver = Receiver::open(1000, 0, Millis(25), Micros(1000)).unwrap();
+    let mut number = 0;
+    for (mark, times) in [(Mark::Ect0, 70), (Mark::Ect1, 3), (Mark::Ce, 2), (Mark::None, 5)] {
+        for _ in 0..times {
+            let packet = Packet { number, time: Micros(0), eliciting: number % 2 == 0, mark };
+            assert!(receiver.packet(packet).is_ok());
+            assert_eq!(receiver.packet(packet), Err(Refusal::Repeated));
+            number += 1;
+        }
+    }
+    let counts = Counts { ect0: 70, ect1: 3, ce: 2 };
+    assert_eq!(receiver.totals(), Totals { counts, unmarked: 5 });
+    let (mut buffer, mut lent) = ([0; ACK_ROOM], [0; 2]);
+    let written = [0x03, 0x40, 79, 0, 0, 0x40, 79, 0x40, 70, 3, 2];
+    assert_eq!(receiver.write_with_counts(Micros(0), &mut buffer[..10]), Err(Refusal::NoRoom));
+    assert_eq!(receiver.write_with_counts(Micros(0), &mut buffer[..11]), Ok(&written[..]));
+    let (ack, rest) = Ack::read(&written, &mut lent).unwrap();
+    assert_eq!((ack.counts, ack.pairs, rest.len()), (Some(counts), &[0, 79][..], 0));
+    let plain = receiver.write(Micros(0), &mut buffer).unwrap();
+    assert_eq!(Ack::read(plain, &mut lent).map(|(ack, _)| ack.counts), Ok(None));
+    let mut above = *receiver.record();
+    above.total_unmarked = LARGEST + 1;
+    assert_eq!(Receiver::from_record(above).timer(Micros(0)), Err(Refusal::Inconsistent));
+    for byte in 0..=255 {
+        assert_eq!(Mark::from_traffic_class(byte).ecn(), u64::from(byte % 4));
+    }
 }
 
 /// Every metric by a value of its own, and a status of each kind.

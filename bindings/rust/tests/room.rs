@@ -34,10 +34,16 @@ impl Room {
         self.say(&format!("An acknowledgment is due for more than {threshold} packets, {gap}, or after {delay} microseconds.\n"));
     }
 
-    fn packet(&mut self, number: u64, time: u64, marked: bool) {
-        self.say(&format!("At {time} packet {number} arrives{}.", if marked { " with a congestion mark" } else { "" }));
+    fn packet(&mut self, number: u64, time: u64, mark: Mark) {
+        let marked = match mark {
+            Mark::None => "",
+            Mark::Ect1 => " marked ECT(1)",
+            Mark::Ect0 => " marked ECT(0)",
+            Mark::Ce => " with a congestion mark",
+        };
+        self.say(&format!("At {time} packet {number} arrives{marked}."));
         let before = self.receiver;
-        let answer = self.receiver.packet(Packet { number, time: Micros(time), eliciting: true, marked });
+        let answer = self.receiver.packet(Packet { number, time: Micros(time), eliciting: true, mark });
         assert!(answer.is_ok() || self.receiver == before, "a refused call changed the record");
         self.came_to(answer);
     }
@@ -48,12 +54,15 @@ impl Room {
         self.came_to(answer);
     }
 
-    /// Writes an acknowledgment, and reads it back as the sender will.
-    fn acknowledge(&mut self, time: u64, room: usize) {
+    /// Writes an acknowledgment, with the counts of marks or without, and reads it back as the sender will.
+    fn acknowledge(&mut self, time: u64, counts: bool, room: usize) {
         let mut buffer = [0; ROOM];
         let mut ranges = [0; ranges_room(ROOM)];
-        self.say(&format!("At {time} an acknowledgment is written into {room} bytes"));
-        let frame = match self.receiver.write(Micros(time), &mut buffer[..room]) {
+        let with_counts = if counts { " with counts" } else { "" };
+        self.say(&format!("At {time} an acknowledgment{with_counts} is written into {room} bytes"));
+        let (now, lent) = (Micros(time), &mut buffer[..room]);
+        let written = if counts { self.receiver.write_with_counts(now, lent) } else { self.receiver.write(now, lent) };
+        let frame = match written {
             Ok(frame) => frame,
             Err(refusal) => return self.say(&format!(".{}", refused(refusal))),
         };
@@ -63,6 +72,9 @@ impl Room {
         let arrived: Vec<_> = ack.ranges().map(|range| format!(" {} to {} arrived", range.start(), range.end())).collect();
         let since = 8 * ack.delay;
         self.say(&format!("  Read back, it says {since} microseconds after packet {}:{}.\n", ack.largest, arrived.join(",")));
+        if let Some(Counts { ect0, ect1, ce }) = ack.counts {
+            self.say(&format!("  Marked so far: {ect0} with ECT(0), {ect1} with ECT(1), {ce} with CE.\n"));
+        }
     }
 
     fn hear(&mut self, frame: Frequency) {
@@ -172,45 +184,54 @@ fn the_room() {
     let mut room = Room { receiver, told: "A packet is lost\n".to_string() };
     room.rules();
     for (number, time) in [(0, 1000), (1, 2000), (3, 4000), (4, 5000), (5, 6000), (5, 6100)] {
-        room.packet(number, time, false);
+        room.packet(number, time, Mark::None);
     }
-    room.acknowledge(6400, ROOM);
+    room.acknowledge(6400, false, ROOM);
 
     room.say("\nThe sender asks for other rules\n");
     room.other_rules();
 
     room.say("\nThe timer runs\n");
-    room.packet(6, 20000, false);
+    room.packet(6, 20000, Mark::None);
     assert_eq!(room.receiver.wake(), Some(Micros(25000)));
     room.timer(24999);
     room.timer(25000);
     assert_eq!(room.receiver.wake(), None);
-    room.acknowledge(25000, ROOM);
+    room.acknowledge(25000, false, ROOM);
 
     room.say("\nThe lost packet comes after all\n");
     for (number, time) in [(2, 26000), (7, 27000), (8, 28000)] {
-        room.packet(number, time, false);
+        room.packet(number, time, Mark::None);
     }
-    room.acknowledge(28000, ROOM);
+    room.acknowledge(28000, false, ROOM);
 
     room.say("\nThe network is congested, and the sender asks\n");
-    room.packet(9, 29000, true);
-    room.acknowledge(29000, 4);
-    room.acknowledge(29000, 5);
+    room.packet(9, 29000, Mark::Ce);
+    room.acknowledge(29000, false, 4);
+    room.acknowledge(29000, false, 5);
     room.asked();
-    room.acknowledge(29400, ROOM);
+    room.acknowledge(29400, false, ROOM);
 
     room.say("\nThe sender confirms an acknowledgment\n");
-    room.packet(12, 30000, false);
-    room.packet(13, 31000, false);
-    room.acknowledge(31000, ROOM);
+    room.packet(12, 30000, Mark::None);
+    room.packet(13, 31000, Mark::None);
+    room.acknowledge(31000, false, ROOM);
     room.confirmed(9);
-    room.acknowledge(31500, ROOM);
-    room.packet(9, 32000, false);
+    room.acknowledge(31500, false, ROOM);
+    room.packet(9, 32000, Mark::None);
     room.confirmed(13);
-    room.packet(14, 33000, false);
-    room.acknowledge(33000, ROOM);
+    room.packet(14, 33000, Mark::None);
+    room.acknowledge(33000, false, ROOM);
     room.confirmed(15);
+
+    room.say("\nThe sender wants the marks counted\n");
+    room.packet(15, 34000, Mark::Ect0);
+    room.packet(16, 34500, Mark::Ce);
+    room.acknowledge(34500, true, 7);
+    room.acknowledge(34500, true, 8);
+    room.packet(16, 34600, Mark::Ce);
+    room.packet(18, 35000, Mark::Ect1);
+    room.acknowledge(35000, true, ROOM);
 
     room.say("\nThe report\n");
     room.report();

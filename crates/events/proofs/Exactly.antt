@@ -14,6 +14,7 @@ use Rattle.wire.specs.Bytes.{pick, be}
 use Rattle.seen.specs.declared.Micros.{Micros}
 use Rattle.receiver.specs.declared.Receiver.{Receiver}
 use Rattle.receiver.specs.declared.Answer.{Answer}
+use Rattle.receiver.specs.declared.Kind.the-variants.{Plain as Kind02}
 use Rattle.receiver.specs.Packet.{packetCall}
 use Rattle.receiver.specs.Calls.{timerCall, immediateCall}
 use Rattle.receiver.specs.Exactly.{Row, first, packetRows, timerRows, immediateRows}
@@ -21,7 +22,7 @@ use Rattle.receiver.specs.Emits.{writeRows}
 use Rattle.receiver.proofs.Exactly.{exactly, unchanged}
 use Rattle.receiver.proofs.Emits.{write-exactly, write-leaves}
 use Rattle.events.specs.declared.Event.{Event}
-use Rattle.events.specs.Events.{room, isEliciting, isMarked, writeCall, eventCall, readCall, recordCall}
+use Rattle.events.specs.Events.{room, isEliciting, ecnMark, writeCall, eventCall, readCall, recordCall}
 use Rattle.events.specs.Exactly.{Known, Exactly, RecordsExactly}
 use Rattle.events.proofs.Reading.{short, whole}
 
@@ -54,7 +55,7 @@ plain a r rows e p q k = record { two = λ h. absent 1 rows p (sym e ∙ h); thr
 
 plain-write : (r : Receiver) (time : Micros) → Plain (writeCall r time) r
 unfolding writeCall
-plain-write r time = plain (writeCall r time) r (writeRows r time 1200) (write-exactly r time room) refl refl (λ h. write-leaves r time room .unchanged h .0)
+plain-write r time = plain (writeCall r time) r (writeRows r time Kind02 1200) (write-exactly r time Kind02 room) refl refl (λ h. write-leaves r time Kind02 room .unchanged h .0)
 
 known : (e : Event) (r : Receiver) → Known (e .kind) → Plain (eventCall e r) r
 unfolding eventCall
@@ -64,8 +65,8 @@ known e r h = go (eqb (e .kind) 1) refl (eqb (e .kind) 2) refl (eqb (e .kind) 3)
     other = record { result = 3; next = r }
 
     go : (a : Bool) → eqb (e .kind) 1 ≡ a → (b : Bool) → eqb (e .kind) 2 ≡ b → (c : Bool) → eqb (e .kind) 3 ≡ c → (d : Bool) → eqb (e .kind) 4 ≡ d
-        → Plain (pick a (packetCall r (e .number) (e .time) (isEliciting e) (isMarked e)) (pick b (timerCall r (e .time)) (pick c (writeCall r (e .time)) (pick d (immediateCall r) other)))) r
-    go true p b q c s d t = plain (packetCall r (e .number) (e .time) (isEliciting e) (isMarked e)) r (packetRows r (e .number) (e .time)) (exactly .packet r (e .number) (e .time) (isEliciting e) (isMarked e)) refl refl (unchanged .packet r (e .number) (e .time) (isEliciting e) (isMarked e))
+        → Plain (pick a (packetCall r (e .number) (e .time) (isEliciting e) (ecnMark e)) (pick b (timerCall r (e .time)) (pick c (writeCall r (e .time)) (pick d (immediateCall r) other)))) r
+    go true p b q c s d t = plain (packetCall r (e .number) (e .time) (isEliciting e) (ecnMark e)) r (packetRows r (e .number) (e .time)) (exactly .packet r (e .number) (e .time) (isEliciting e) (ecnMark e)) refl refl (unchanged .packet r (e .number) (e .time) (isEliciting e) (ecnMark e))
     go false p true q c s d t = plain (timerCall r (e .time)) r (timerRows r (e .time)) (exactly .timer r (e .time)) refl refl (unchanged .timer r (e .time))
     go false p false q true s d t = plain-write r (e .time)
     go false p false q false s true t = plain (immediateCall r) r (immediateRows r) (exactly .immediate r) refl refl (unchanged .immediate r)

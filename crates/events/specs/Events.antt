@@ -6,6 +6,9 @@ use lib.Dec.{leb, eqb}
 use lib.ListN.{length, getD, take, drop, replicate}
 use Rattle.wire.specs.Bytes.{pick, be}
 use Rattle.seen.specs.declared.Micros.{Micros}
+use Rattle.receiver.specs.declared.Mark.{Mark}
+use Rattle.receiver.specs.declared.Mark.the-variants.{None, Ect0, Ect1, Ce}
+use Rattle.receiver.specs.declared.Kind.the-variants.{Plain}
 use Rattle.receiver.specs.declared.Receiver.{Receiver}
 use Rattle.receiver.specs.declared.Answer.{Answer}
 use Rattle.receiver.specs.declared.Wrote.{Wrote}
@@ -33,8 +36,9 @@ readEvent s =
 abbrev pub isEliciting : Event → Bool
 isEliciting e = eqb (e .flags % 2) 1
 
-abbrev pub isMarked : Event → Bool
-isMarked e = eqb (e .flags / 2 % 2) 1
+-- "In the replay's flags 2 is CE, 4 ECT(0), 8 ECT(1); with several set, the first of these counts" (02, No. 2)
+unfoldable pub ecnMark : Event → Mark
+ecnMark e = pick (eqb (e .flags / 2 % 2) 1) Ce (pick (eqb (e .flags / 4 % 2) 1) Ect0 (pick (eqb (e .flags / 8 % 2) 1) Ect1 None))
 
 -- ---- the answer
 
@@ -51,12 +55,12 @@ abbrev pub resultOf : Wrote → Answer
 resultOf w = record { result = w .result; next = w .next }
 
 unfoldable pub writeCall : Receiver → Micros → Answer
-writeCall r time = resultOf (writeAnswer r time room)
+writeCall r time = resultOf (writeAnswer r time Plain room)
 
 -- "kind (1 packet, 2 timer, 3 write, 4 IMMEDIATE_ACK)"; "An unknown kind prints 3"
 unfoldable pub eventCall : Event → Receiver → Answer
 eventCall e r =
-    pick (eqb (e .kind) 1) (packetCall r (e .number) (e .time) (isEliciting e) (isMarked e))
+    pick (eqb (e .kind) 1) (packetCall r (e .number) (e .time) (isEliciting e) (ecnMark e))
     (pick (eqb (e .kind) 2) (timerCall r (e .time))
     (pick (eqb (e .kind) 3) (writeCall r (e .time))
     (pick (eqb (e .kind) 4) (immediateCall r) (record { result = 3; next = r }))))

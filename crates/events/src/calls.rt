@@ -1,9 +1,11 @@
 // An event record, and the receiver's answer to it.
 ghost use mathlib.Core.Path.{_≡_};
-ghost use Rattle.events.specs.Events.{readEvent, isEliciting, isMarked, writeCall, eventCall, recordCall};
+ghost use Rattle.events.specs.Events.{readEvent, isEliciting, ecnMark, writeCall, eventCall, recordCall};
 use crate::Event;
 use crate::EventRead;
 use receiver::Answer;
+use receiver::Kind;
+use receiver::Mark;
 use receiver::Receiver;
 use seen::Micros;
 use wire::Fixed;
@@ -34,12 +36,12 @@ pub fn read_event(s: &[u8]) -> EventRead
     })
 }
 
-// The write call in a room of 1,200 bytes; what it wrote is dropped.
+// The write call, of type 02, in a room of 1,200 bytes; what it wrote is dropped.
 fn write(receiver: Receiver, time: Micros) -> Answer
     ensures { λ r. ⌜ r ≡ writeCall receiver time ⌝ }
 {
     let mut room = [0u8; 1200];
-    let wrote = receiver.write(time, &mut room);
+    let wrote = receiver.write(time, Kind::Plain, &mut room);
     let next = wrote.next;
     Answer {
         result: wrote.result,
@@ -55,11 +57,21 @@ impl Event {
         bit == 1
     }
 
-    fn is_marked(self) -> bool
-        ensures { λ r. ⌜ r ≡ isMarked self ⌝ }
+    // The first of CE, ECT(0) and ECT(1) whose flag is set.
+    fn ecn_mark(self) -> Mark
+        ensures { λ r. ⌜ r ≡ ecnMark self ⌝ }
     {
-        let bit = self.flags / 2 % 2;
-        bit == 1
+        let flags = self.flags;
+        if flags / 2 % 2 == 1 {
+            return Mark::Ce;
+        }
+        if flags / 4 % 2 == 1 {
+            return Mark::Ect0;
+        }
+        if flags / 8 % 2 == 1 {
+            return Mark::Ect1;
+        }
+        Mark::None
     }
 
     // The receiver's answer to the event.
@@ -68,12 +80,7 @@ impl Event {
     {
         let kind = self.kind;
         match kind {
-            1 => receiver.packet(
-                self.number,
-                self.time,
-                self.is_eliciting(),
-                self.is_marked(),
-            ),
+            1 => receiver.packet(self.number, self.time, self.is_eliciting(), self.ecn_mark()),
             2 => receiver.timer(self.time),
             3 => write(receiver, self.time),
             4 => receiver.immediate(),

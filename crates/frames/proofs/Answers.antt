@@ -1,15 +1,22 @@
--- What the ACK reader answers and leaves in the lent slice, once its ranges are walked over: one law for each end of the walk.
+-- What the ACK reader answers and leaves in the lent slice, once its ranges and its counts are read: one law for each end.
 -- Assumes nothing.
 use Prim.Native.Nat.{ℕ, _+_, _*_, _≤_, _<_}
 use mathlib.Core.Path.{_≡_, refl, sym, ap, _∙_}
+use mathlib.Core.Bool.{Bool, true, false}
 use mathlib.Core.List.{List}
 use borrow.Author.Tests.{le-leb, lt-leb}
 use lib.ListN.{length}
 use Rattle.wire.specs.Bytes.{splice}
-use Rattle.wire.proofs.Reading.{yes, no}
-use Rattle.frames.specs.Ack.{rangesFrom, AckRead, refused, afterWalk, readRanges}
+use Rattle.wire.specs.Numbers.{readNumber}
+use Rattle.wire.specs.declared.Number.{Number}
+use Rattle.wire.specs.declared.Number.the-variants.{Value, Ends as Stops}
+use Rattle.wire.proofs.Reading.{stop, next, yes, no}
+use Rattle.frames.specs.Ack.{rangesFrom, readTail, readRest, AckRead, refused, afterRest, readRanges}
+use Rattle.frames.specs.declared.Tail.{Tail}
+use Rattle.frames.specs.declared.Tail.the-variants.{Nothing, Counts}
 use Rattle.frames.specs.declared.Walk.{Walk}
-use Rattle.frames.specs.declared.Walk.the-variants.{Whole, Ends, BelowZero}
+use Rattle.frames.specs.declared.Ending.{Ending}
+use Rattle.frames.specs.declared.Ending.the-variants.{Whole, Ends, BelowZero}
 use Rattle.frames.specs.declared.Ack.{Ack}
 use Rattle.frames.specs.declared.Ack.the-variants.{Frame, Ends as Cut, BelowZero as Below, NoRoom}
 
@@ -20,23 +27,52 @@ both e = (ap (λ (r : AckRead). r .answer) e, ap (λ (r : AckRead). r .slice) e)
 pub joined : {a : Ack} {ys : List ℕ} {x : AckRead} → a ≡ x .answer → ys ≡ x .slice → record { answer = a; slice = ys } ≡ x
 joined e d = rw (e, d)
 
--- w is how the walk ended
-module _ (s : List ℕ) (at largest delay count : ℕ) (xs : List ℕ) {w : Walk} (e : w ≡ rangesFrom count s at largest .walk) where
-  ended-so : (v : Walk) → w ≡ v → afterWalk v largest delay count (rangesFrom count s at largest .pairs) xs ≡ readRanges s at largest delay count xs
-  unfolding readRanges
-  ended-so v t = ap (λ (u : Walk). afterWalk u largest delay count (rangesFrom count s at largest .pairs) xs) (sym t ∙ e)
+-- what comes after a walk that ended as u
+pub rest-so : (counted : Bool) (s : List ℕ) {u v w : Walk} → u ≡ v → u ≡ w → readRest counted s v ≡ readRest counted s w
+rest-so counted s t e = ap (readRest counted s) (sym t ∙ e)
 
-  pub ranges-cut : w ≡ Ends → refused Cut xs ≡ readRanges s at largest delay count xs
+-- w is how the ranges and what comes after them ended
+module _ (s : List ℕ) (at largest delay count : ℕ) (counted : Bool) (xs : List ℕ) {w : Ending} (e : w ≡ readRest counted s (rangesFrom count s at largest .walk)) where
+  ended-so : (v : Ending) → w ≡ v → afterRest v largest delay count (rangesFrom count s at largest .pairs) xs ≡ readRanges s at largest delay count counted xs
+  unfolding readRanges
+  ended-so v t = ap (λ (u : Ending). afterRest u largest delay count (rangesFrom count s at largest .pairs) xs) (sym t ∙ e)
+
+  pub ranges-cut : w ≡ Ends → refused Cut xs ≡ readRanges s at largest delay count counted xs
   ranges-cut t = ended-so Ends t
 
-  pub ranges-low : w ≡ BelowZero → refused Below xs ≡ readRanges s at largest delay count xs
+  pub ranges-low : w ≡ BelowZero → refused Below xs ≡ readRanges s at largest delay count counted xs
   ranges-low t = ended-so BelowZero t
 
-  module _ {used : ℕ} (t : w ≡ Whole used) where
-    pub no-room : length xs < 2 * (count + 1) → refused NoRoom xs ≡ readRanges s at largest delay count xs
-    no-room h = no _ _ (lt-leb (2 * (count + 1)) (length xs) h) refl ∙ ended-so (Whole used) t
+  module _ {tail : Tail} {used : ℕ} (t : w ≡ Whole tail used) where
+    pub no-room : length xs < 2 * (count + 1) → refused NoRoom xs ≡ readRanges s at largest delay count counted xs
+    no-room h = no _ _ (lt-leb (2 * (count + 1)) (length xs) h) refl ∙ ended-so (Whole tail used) t
 
     -- ys is what the ranges' writer left
     pub accepted : {ys : List ℕ} → 2 * (count + 1) ≤ length xs → ys ≡ splice xs 0 (rangesFrom count s at largest .pairs)
-        → record { answer = Frame largest delay (count + 1) used; slice = ys } ≡ readRanges s at largest delay count xs
-    accepted h d = yes _ _ (le-leb (2 * (count + 1)) (length xs) h) (rw d) ∙ ended-so (Whole used) t
+        → record { answer = Frame largest delay (count + 1) used tail; slice = ys } ≡ readRanges s at largest delay count counted xs
+    accepted h d = yes _ _ (le-leb (2 * (count + 1)) (length xs) h) (rw d) ∙ ended-so (Whole tail used) t
+
+-- ---- the counts: n0, n1 and n2 are what reading them answers
+
+pub tail-none : (s : List ℕ) (at : ℕ) {counted : Bool} → counted ≡ false → Whole Nothing at ≡ readTail counted s at
+unfolding readTail
+tail-none s at e = rw e
+
+module _ (s : List ℕ) (at : ℕ) {counted : Bool} (e : counted ≡ true) {n0 : Number} (e0 : n0 ≡ readNumber s at) where
+  pub tail-cut : n0 ≡ Stops → Ends ≡ readTail counted s at
+  unfolding readTail
+  tail-cut t = rw e (stop _ _ t e0)
+
+  module _ {ect0 at1 : ℕ} {b0 : Bool} (t0 : n0 ≡ Value ect0 at1 b0) {n1 : Number} (e1 : n1 ≡ readNumber s at1) where
+    pub tail-cut-2 : n1 ≡ Stops → Ends ≡ readTail counted s at
+    unfolding readTail
+    tail-cut-2 t = rw e (next _ _ t0 e0 (stop _ _ t e1))
+
+    module _ {ect1 at2 : ℕ} {b1 : Bool} (t1 : n1 ≡ Value ect1 at2 b1) {n2 : Number} (e2 : n2 ≡ readNumber s at2) where
+      pub tail-cut-3 : n2 ≡ Stops → Ends ≡ readTail counted s at
+      unfolding readTail
+      tail-cut-3 t = rw e (next _ _ t0 e0 (next _ _ t1 e1 (stop _ _ t e2)))
+
+      pub tail-whole : {ce used : ℕ} {b2 : Bool} → n2 ≡ Value ce used b2 → Whole (Counts ect0 ect1 ce) used ≡ readTail counted s at
+      unfolding readTail
+      tail-whole t = rw e (next _ _ t0 e0 (next _ _ t1 e1 (next _ _ t e2 refl)))

@@ -6,7 +6,7 @@ use mathlib.Core.Bool.{Bool, true}
 use mathlib.Core.List.{List, [], _∷_, _++_, append-assoc}
 use native.Mathlib.Nat.{zero-add}
 use native.Mathlib.Omega.{arith}
-use lib.Dec.{lit≤}
+use lib.Dec.{eqb, lit≤}
 use lib.ListN.{length, drop, getD}
 use Rattle.wire.specs.Bytes.{splice}
 use Rattle.wire.specs.Numbers.{limit, widthOf, encode, encodeAll, readNumber, putAnswer, putBytes}
@@ -15,16 +15,20 @@ use Rattle.wire.specs.Standing.{Stand, none, one}
 use Rattle.wire.specs.declared.Number.the-variants.{Value}
 use Rattle.wire.specs.declared.Put.the-variants.{Done}
 use Rattle.wire.proofs.Reading.{next}
+use Rattle.wire.proofs.Small.{small-append}
 use Rattle.wire.proofs.RoundTrip.{read-encoded}
 use Rattle.wire.proofs.Standing.{encoded-stand, put-done}
-use Rattle.frames.specs.Types.{frequencyType, immediateType, ackType}
+use Rattle.frames.specs.Types.{frequencyType, immediateType, countsType, ackTypes, isAck}
 use Rattle.frames.specs.Frequency.{readFrequency, frequency}
 use Rattle.frames.specs.Immediate.{readImmediate, immediate}
-use Rattle.frames.specs.Ack.{Ranges, rangesFrom, readAck, gapsFrom, ackNumbers, RangesBelow, AckRanges}
+use Rattle.frames.specs.Ack.{Ranges, rangesFrom, readTail, readRest, readAck, gapsFrom, rangeNumbers, typeOf, countsOf, ackNumbers, RangesBelow, AckRanges}
 use Rattle.frames.specs.EachWay.{FrequencyWriteRead, ImmediateWriteRead, AckWriteRead}
 use Rattle.frames.specs.declared.Frequency.the-variants.{Frame}
 use Rattle.frames.specs.declared.Immediate.the-variants.{Frame as Alone}
 use Rattle.frames.specs.declared.Ack.the-variants.{Frame as Read}
+use Rattle.frames.specs.declared.Tail.{Tail}
+use Rattle.frames.specs.declared.Tail.the-variants.{Nothing, Counts}
+use Rattle.frames.specs.declared.Ending.the-variants.{Whole as Ended}
 use Rattle.frames.specs.declared.Walk.the-variants.{Whole}
 use Rattle.frames.proofs.Types.{type-right}
 use Rattle.frames.proofs.Ranges.{last, more}
@@ -37,10 +41,10 @@ pub frequency-stands : {s : List ℕ} {q t d r used at : ℕ} → Stand s 0 (fre
     → readFrequency s ≡ Frame q t d r used
 frequency-stands {s} {at = at} (one {mid = m} k (one a (one b (one c (one e none))))) w =
     let n : m ≡ at = cc in
-    sym (type-right frequencyType s _ _ _ refl w refl refl (next _ _ refl (rw n at (sym a)) (next _ _ refl (sym b) (next _ _ refl (sym c) (next _ _ refl (sym e) refl)))))
+    sym (type-right (frequencyType ∷ []) s _ _ _ refl w refl refl (next _ _ refl (rw n at (sym a)) (next _ _ refl (sym b) (next _ _ refl (sym c) (next _ _ refl (sym e) refl)))))
 
 pub immediate-stands : {s : List ℕ} {used at : ℕ} → Stand s 0 immediate used → readNumber s 0 ≡ Value immediateType at true → readImmediate s ≡ Alone used
-immediate-stands {s} {at = at} (one {mid = m} k none) w = let n : m ≡ at = cc in rw n (sym (type-right immediateType s _ _ _ refl w refl refl refl))
+immediate-stands {s} {at = at} (one {mid = m} k none) w = let n : m ≡ at = cc in rw n (sym (type-right (immediateType ∷ []) s _ _ _ refl w refl refl refl))
 
 -- the frame's numbers vs, written at the start of s, stand there, and the type in its shortest form
 module _ (kind : ℕ) (vs s tl : List ℕ) (f : Small (kind ∷ vs)) (e : s ≡ encodeAll (kind ∷ vs) ++ tl) where
@@ -130,48 +134,79 @@ even [] lo b = refl
 even (smallest ∷ []) lo b = absurd b
 even (smallest ∷ largest ∷ pairs) lo b = omega (arith, even pairs smallest (b .2))
 
+-- ---- ACK: the counts
+
+pub stand-split : {s : List ℕ} {at next : ℕ} (us vs : List ℕ) → Stand s at (us ++ vs) next → (mid : ℕ) × Stand s at us mid × Stand s mid vs next
+stand-split {at = at} [] vs t = (at, none, t)
+stand-split (u ∷ us) vs (one e t) = let r = stand-split us vs t in (r .0, one e (r .1), r .2)
+
+tail-stands : {s : List ℕ} {at used : ℕ} (tail : Tail) → Stand s at (countsOf tail) used → Ended tail used ≡ readTail (eqb (typeOf tail) countsType) s at
+unfolding readTail
+tail-stands Nothing none = refl
+tail-stands (Counts ect0 ect1 ce) (one a (one b (one c none))) = next _ _ refl (sym a) (next _ _ refl (sym b) (next _ _ refl (sym c) refl))
+
+an-ack : (tail : Tail) → isAck (typeOf tail) ≡ true
+an-ack Nothing = refl
+an-ack (Counts ect0 ect1 ce) = refl
+
+pub type-small : (tail : Tail) → typeOf tail ≤ limit
+type-small Nothing = lit≤ tt
+type-small (Counts ect0 ect1 ce) = lit≤ tt
+
+-- ---- ACK: the frame
+
 -- with room for the ranges, the frame's numbers are the answer and the slice
-ack-stands : (s xs pairs : List ℕ) (delay lo hi used start : ℕ) → lo ≤ hi → RangesBelow lo pairs → 2 * (length pairs / 2 + 1) ≤ length xs
-    → readNumber s 0 ≡ Value ackType start true → Stand s 0 (ackType ∷ hi ∷ delay ∷ (length pairs / 2) ∷ (hi - lo) ∷ gapsFrom lo pairs) used
-    → readAck s xs ≡ record { answer = Read hi delay (length pairs / 2 + 1) used; slice = splice xs 0 (lo ∷ hi ∷ pairs) }
-ack-stands s xs pairs delay lo hi used start h b room w (one {mid = m} k (one {mid = m1} a (one {mid = m2} c (one {mid = at} n t)))) =
+ack-stands : (s xs pairs : List ℕ) (tail : Tail) (delay lo hi used start : ℕ) → lo ≤ hi → RangesBelow lo pairs → 2 * (length pairs / 2 + 1) ≤ length xs
+    → readNumber s 0 ≡ Value (typeOf tail) start true
+    → Stand s 0 (typeOf tail ∷ hi ∷ delay ∷ (length pairs / 2) ∷ (((hi - lo) ∷ gapsFrom lo pairs) ++ countsOf tail)) used
+    → readAck s xs ≡ record { answer = Read hi delay (length pairs / 2 + 1) used tail; slice = splice xs 0 (lo ∷ hi ∷ pairs) }
+ack-stands s xs pairs tail delay lo hi used start h b room w (one {mid = m} k (one {mid = m1} a (one {mid = m2} c (one {mid = at} n t)))) =
     let e : m ≡ start = cc in
-    let r = ranges-stand pairs s at lo hi used h b t in
-    let walked : Whole used ≡ rangesFrom (length pairs / 2) s at hi .walk = sym (ap (λ (x : Ranges). x .walk) r) in
+    let p = stand-split ((hi - lo) ∷ gapsFrom lo pairs) (countsOf tail) t in
+    let r = ranges-stand pairs s at lo hi (p .0) h b (p .1) in
+    let walked : Whole (p .0) ≡ rangesFrom (length pairs / 2) s at hi .walk = sym (ap (λ (x : Ranges). x .walk) r) in
+    let whole : Ended tail used ≡ readRest (eqb (typeOf tail) countsType) s (rangesFrom (length pairs / 2) s at hi .walk) =
+    tail-stands tail (p .2) ∙ ap (readRest (eqb (typeOf tail) countsType) s) walked in
     let wrote : splice xs 0 (lo ∷ hi ∷ pairs) ≡ splice xs 0 (rangesFrom (length pairs / 2) s at hi .pairs) = sym (ap (λ (x : Ranges). splice xs 0 (x .pairs)) r) in
     sym
-    (type-right ackType s _ _ _ refl w refl refl
+    (type-right ackTypes s _ _ _ refl w (an-ack tail) refl
     (next _ _ refl (rw e at (sym a)) (next _ _ refl (sym c) (next _ _ refl (sym n)
-    (accepted s at hi delay (length pairs / 2) xs walked refl room wrote)))))
+    (accepted s at hi delay (length pairs / 2) (eqb (typeOf tail) countsType) xs whole refl room wrote)))))
 
--- no number of an ACK frame is above the limit, so its writer never answers 5
-pub ack-small : (delay : ℕ) (pairs : List ℕ) → AckRanges pairs → delay ≤ limit → Small (ackNumbers delay pairs)
-unfolding AckRanges ackNumbers
-ack-small delay [] r d = absurd r
-ack-small delay (lo ∷ []) r d = absurd r
-ack-small delay (lo ∷ hi ∷ pairs) r d =
+-- no number before the counts is above the limit
+pub ranges-small : (kind delay : ℕ) (pairs : List ℕ) → kind ≤ limit → AckRanges pairs → delay ≤ limit → Small (rangeNumbers kind delay pairs)
+unfolding AckRanges rangeNumbers
+ranges-small kind delay [] k r d = absurd r
+ranges-small kind delay (lo ∷ []) k r d = absurd r
+ranges-small kind delay (lo ∷ hi ∷ pairs) k r d =
     let few : length pairs / 2 ≤ limit = omega (arith, few-ranges pairs lo (r .2), r .0, r .1) in
     let gaps : Small (gapsFrom lo pairs) = gaps-small pairs lo (omega (arith, r .0, r .1)) (r .2) in
-    (lit≤ tt, (r .1, (d, (few, (omega (arith, r .1), gaps)))))
+    (k, (r .1, (d, (few, (omega (arith, r .1), gaps)))))
 
--- an ACK frame that says given ranges is read as those ranges
-pub ack-back : (delay : ℕ) (pairs tl xs : List ℕ) → AckRanges pairs → delay ≤ limit → length pairs ≤ length xs
-    → readAck (encodeAll (ackNumbers delay pairs) ++ tl) xs
-    ≡ record { answer = Read (getD pairs 1 0) delay (length pairs / 2) (length (encodeAll (ackNumbers delay pairs))); slice = splice xs 0 pairs }
-unfolding AckRanges ackNumbers
-ack-back delay [] tl xs r d h = absurd r
-ack-back delay (lo ∷ []) tl xs r d h = absurd r
-ack-back delay (lo ∷ hi ∷ pairs) tl xs r d h =
-    let vs : List ℕ = hi ∷ delay ∷ (length pairs / 2) ∷ (hi - lo) ∷ gapsFrom lo pairs in
-    let s : List ℕ = encodeAll (ackType ∷ vs) ++ tl in
-    let f : Small (ackType ∷ vs) = ack-small delay (lo ∷ hi ∷ pairs) r d in
+-- so its writer answers 5 for a count only
+pub ack-small : (tail : Tail) (delay : ℕ) (pairs : List ℕ) → AckRanges pairs → delay ≤ limit → Small (countsOf tail) → Small (ackNumbers tail delay pairs)
+ack-small tail delay pairs r d f = small-append (rangeNumbers (typeOf tail) delay pairs) (countsOf tail) .1 (ranges-small (typeOf tail) delay pairs (type-small tail) r d, f)
+
+-- an ACK frame that says given ranges and counts is read as those
+pub ack-back : (tail : Tail) (delay : ℕ) (pairs tl xs : List ℕ) → AckRanges pairs → delay ≤ limit → Small (countsOf tail) → length pairs ≤ length xs
+    → readAck (encodeAll (ackNumbers tail delay pairs) ++ tl) xs
+    ≡ record { answer = Read (getD pairs 1 0) delay (length pairs / 2) (length (encodeAll (ackNumbers tail delay pairs))) tail; slice = splice xs 0 pairs }
+unfolding AckRanges rangeNumbers
+ack-back tail delay [] tl xs r d f h = absurd r
+ack-back tail delay (lo ∷ []) tl xs r d f h = absurd r
+ack-back tail delay (lo ∷ hi ∷ pairs) tl xs r d f h =
+    let vs : List ℕ = hi ∷ delay ∷ (length pairs / 2) ∷ (((hi - lo) ∷ gapsFrom lo pairs) ++ countsOf tail) in
+    let s : List ℕ = encodeAll (typeOf tail ∷ vs) ++ tl in
+    let g : Small (typeOf tail ∷ vs) = ack-small tail delay (lo ∷ hi ∷ pairs) r d f in
     let n : length pairs / 2 + 1 ≡ suc (suc (length pairs)) / 2 = omega arith in
     rw (← n)
-    (ack-stands s xs pairs delay lo hi (length (encodeAll (ackType ∷ vs))) (widthOf ackType) (r .0) (r .2) (omega (arith, even pairs lo (r .2)))
-    (written-type ackType vs s tl f refl) (written-stands ackType vs s tl f refl))
+    (ack-stands s xs pairs tail delay lo hi (length (encodeAll (typeOf tail ∷ vs))) (widthOf (typeOf tail)) (r .0) (r .2) (omega (arith, even pairs lo (r .2)))
+    (written-type (typeOf tail) vs s tl g refl) (written-stands (typeOf tail) vs s tl g refl))
 
 -- the same where it was written with `wire::put_numbers` at the start of a buffer
 pub ack-write-read : AckWriteRead
-ack-write-read buf xs pairs delay used r d h e =
-    let w = put-done buf 0 (ackNumbers delay pairs) used e in
-    rw (w .2, w .1, zero-add (length (encodeAll (ackNumbers delay pairs)))) (ack-back delay pairs (drop (length (encodeAll (ackNumbers delay pairs))) buf) xs r d h)
+ack-write-read buf xs pairs tail delay used r d h e =
+    let vs : List ℕ = ackNumbers tail delay pairs in
+    let w = put-done buf 0 vs used e in
+    let f = small-append (rangeNumbers (typeOf tail) delay pairs) (countsOf tail) .0 (w .0) .1 in
+    rw (w .2, w .1, zero-add (length (encodeAll vs))) (ack-back tail delay pairs (drop (length (encodeAll vs)) buf) xs r d f h)

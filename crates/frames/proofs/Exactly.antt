@@ -8,60 +8,87 @@ use mathlib.Core.List.{List, [], _∷_}
 use native.Mathlib.Nat.{add-zero}
 use native.Mathlib.Omega.{arith}
 use borrow.Author.Tests.{eqb-false, le-leb, lt-leb}
-use lib.Dec.{leb}
-use lib.ListN.{length}
+use lib.Dec.{leb, eqb}
+use lib.ListN.{length, take}
 use Rattle.wire.specs.Bytes.{pick, splice}
 use Rattle.wire.specs.Fields.{field}
 use Rattle.wire.specs.Numbers.{readNumber}
 use Rattle.wire.specs.Exactly.{OneOf}
 use Rattle.wire.proofs.Lengths.{split}
-use Rattle.frames.specs.Types.{frequencyType, immediateType, ackType}
+use Rattle.frames.specs.Types.{frequencyType, immediateType, countsType, ackTypes}
 use Rattle.frames.specs.Frequency.{readThresholds, readFrequency}
 use Rattle.frames.specs.Immediate.{readImmediate}
-use Rattle.frames.specs.Ack.{Ranges, ended, before, range, below, rangesFrom, AckRead, refused, afterWalk, readRanges, readAck}
+use Rattle.frames.specs.Ack.{Ranges, ended, before, range, below, rangesFrom, readTail, readRest, AckRead, refused, afterRest, readRanges, readAck}
 use Rattle.frames.specs.Refusals.{frequencyRefusal, immediateRefusal, ackRefusal}
-use Rattle.frames.specs.Exactly.{Reads, FrequencyReads, ImmediateReads, asked, count, down, Below, NotBelow, AckReads}
+use Rattle.frames.specs.Exactly.{Reads, FrequencyReads, ImmediateReads, ofRanges, asked, count, down, Below, NotBelow, AckReads}
 use Rattle.frames.specs.declared.Frequency.{Frequency}
 use Rattle.frames.specs.declared.Frequency.the-variants.{Frame, Ends, OtherType}
 use Rattle.frames.specs.declared.Ack.{Ack}
 use Rattle.frames.specs.declared.Ack.the-variants.{Frame as Read, Ends as Cut', OtherType as OtherType', BelowZero as Low, NoRoom}
-use Rattle.frames.specs.declared.Walk.{Walk}
-use Rattle.frames.specs.declared.Walk.the-variants.{Whole, Ends as Stops, BelowZero}
+use Rattle.frames.specs.declared.Walk.the-variants.{Whole, BelowZero}
+use Rattle.frames.specs.declared.Ending.{Ending}
+use Rattle.frames.specs.declared.Ending.the-variants.{Whole as Ended, Ends as Stopped, BelowZero as Lowered}
 use Rattle.frames.specs.declared.Immediate.{Immediate}
 use Rattle.frames.specs.declared.Immediate.the-variants.{Frame as Alone, Ends as Cut, OtherType as Another}
 use Rattle.frames.proofs.Rows.{Rows, FrameRows, nothing, at-once, never, here, field-rows, rows-map, frame-rows, through}
 
--- ---- frames of n numbers
+-- ---- n numbers in a row
 
--- the refusal of n numbers from at on
-chain : ℕ → List ℕ → ℕ → ℕ
-chain zero s at = 0
-chain (suc n) s at = field (readNumber s at) 2 (λ v next. chain n s next)
+-- the refusal of n numbers from at on, after which a room is judged
+chain : ℕ → ℕ → ℕ → List ℕ → ℕ → ℕ
+chain need room zero s at = pick (leb need room) 0 9
+chain need room (suc n) s at = field (readNumber s at) 2 (λ v next. chain need room n s next)
 
-chain-rows : (n : ℕ) (s : List ℕ) (at : ℕ) → Rows s at (chain n s at) (λ vs. length vs < n) (λ vs. ⊥) (λ vs. ⊥) (λ vs. length vs ≡ n)
+chain-rows : (need room n : ℕ) (s : List ℕ) (at : ℕ)
+    → Rows s at (chain need room n s at) (λ vs. length vs < n) (λ vs. ⊥) (λ vs. (length vs ≡ n) × (room < need)) (λ vs. (length vs ≡ n) × (need ≤ room))
 unfolding chain
-chain-rows zero s at = record {
-  three = eqb-false 0 3 refl;
-  two = never (eqb-false 0 2 refl) (nothing (λ vs next p. omega (arith, p .0)));
-  fourteen = never (eqb-false 0 14 refl) (nothing (λ vs next p. p));
-  nine = never (eqb-false 0 9 refl) (nothing (λ vs next p. p));
-  accepted = here (at-once refl);
-}
-chain-rows (suc n) s at =
-    field-rows (omega arith) (λ p. p) (λ p. p) (λ p. omega arith)
+chain-rows need room zero s at =
+    split need room
+    (λ h.
+    rw (le-leb need room h)
+    (record {
+      three = eqb-false 0 3 refl;
+      two = never (eqb-false 0 2 refl) (nothing (λ vs next p. omega (arith, p .0)));
+      fourteen = never (eqb-false 0 14 refl) (nothing (λ vs next p. p));
+      nine = never (eqb-false 0 9 refl) (nothing (λ vs next p. omega (arith, p .1)));
+      accepted = here (at-once (refl, h));
+    }))
+    (λ h.
+    rw (lt-leb need room h)
+    (record {
+      three = eqb-false 9 3 refl;
+      two = never (eqb-false 9 2 refl) (nothing (λ vs next p. omega (arith, p .0)));
+      fourteen = never (eqb-false 9 14 refl) (nothing (λ vs next p. p));
+      nine = here (at-once (refl, h));
+      accepted = never (eqb-false 9 0 refl) (nothing (λ vs next p. omega (arith, p .1)));
+    }))
+chain-rows need room (suc n) s at =
+    field-rows (omega arith) (λ p. p) (λ p. omega (arith, p .0)) (λ p. omega (arith, p .0))
     (λ v next.
     rows-map
     (λ vs. (λ p. omega arith, λ p. omega arith))
     (λ vs. (λ p. p, λ p. p))
-    (λ vs. (λ p. p, λ p. p))
-    (λ vs. (λ p. omega arith, λ p. omega arith))
-    (chain-rows n s next))
+    (λ vs. (λ p. (omega (arith, p .0), p .1), λ p. (omega (arith, p .0), p .1)))
+    (λ vs. (λ p. (omega (arith, p .0), p .1), λ p. (omega (arith, p .0), p .1)))
+    (chain-rows need room n s next))
 
-frame-reads : {kind n : ℕ} {s : List ℕ} {refusal : ℕ} → FrameRows kind s refusal (λ vs. length vs < n) (λ vs. ⊥) (λ vs. ⊥) (λ vs. length vs ≡ n)
-    → OneOf refusal (0 ∷ 2 ∷ 3 ∷ []) → Reads kind n s refusal
+-- ---- frames of n numbers: no room is judged
+
+numbers-rows : (n : ℕ) (s : List ℕ) (at : ℕ) → Rows s at (chain 0 0 n s at) (λ vs. length vs < n) (λ vs. ⊥) (λ vs. ⊥) (λ vs. length vs ≡ n)
+numbers-rows n s at =
+    rows-map
+    (λ vs. (λ p. p, λ p. p))
+    (λ vs. (λ p. p, λ p. p))
+    (λ vs. (λ p. omega (arith, p .1), λ p. absurd p))
+    (λ vs. (λ p. p .0, λ p. (p, omega arith)))
+    (chain-rows 0 0 n s at)
+
+frame-reads : {type n : ℕ} {s : List ℕ} {refusal : ℕ}
+    → FrameRows (type ∷ []) s refusal (λ kind vs. length vs < n) (λ kind vs. ⊥) (λ kind vs. ⊥) (λ kind vs. length vs ≡ n)
+    → OneOf refusal (0 ∷ 2 ∷ 3 ∷ []) → Reads type n s refusal
 frame-reads r o = record { three = r .three; two = r .two; accepted = r .accepted; others = o }
 
-four : (s : List ℕ) (at : ℕ) → frequencyRefusal (readThresholds s at) ≡ chain 4 s at
+four : (s : List ℕ) (at : ℕ) → frequencyRefusal (readThresholds s at) ≡ chain 0 0 4 s at
 unfolding chain
 four s at =
     through frequencyRefusal (readNumber s at) refl (λ q at1.
@@ -81,67 +108,63 @@ immediate-others Cut = inr (inl refl)
 immediate-others Another = inr (inr (inl refl))
 
 ack-others : (a : Ack) → OneOf (ackRefusal a) (0 ∷ 2 ∷ 3 ∷ 9 ∷ 14 ∷ [])
-ack-others (Read l d ranges used) = inl refl
+ack-others (Read l d ranges used tail) = inl refl
 ack-others Cut' = inr (inl refl)
 ack-others OtherType' = inr (inr (inl refl))
 ack-others NoRoom = inr (inr (inr (inl refl)))
 ack-others Low = inr (inr (inr (inr (inl refl))))
 
 pub frequency-reads : FrequencyReads
-frequency-reads s = frame-reads (frame-rows frequencyRefusal frequencyType s Ends OtherType _ refl refl (λ at. rw four (chain-rows 4 s at))) (frequency-others (readFrequency s))
+frequency-reads s = frame-reads (frame-rows frequencyRefusal (frequencyType ∷ []) s Ends OtherType _ refl refl (λ kind at. rw four (numbers-rows 4 s at))) (frequency-others (readFrequency s))
 
 pub immediate-reads : ImmediateReads
 unfolding chain
-immediate-reads s = frame-reads (frame-rows immediateRefusal immediateType s Cut Another Alone refl refl (chain-rows 0 s)) (immediate-others (readImmediate s))
+immediate-reads s = frame-reads (frame-rows immediateRefusal (immediateType ∷ []) s Cut Another _ refl refl (λ kind at. numbers-rows 0 s at)) (immediate-others (readImmediate s))
 
 -- ---- ACK: the ranges
 
--- the refusal of a walk that ended so, with the room for all the frame's ranges
-walkRefusal : ℕ → ℕ → Walk → ℕ
-walkRefusal total room Stops = 2
-walkRefusal total room BelowZero = 14
-walkRefusal total room (Whole used) = pick (leb (2 * (total + 1)) room) 0 9
+-- the refusal of a frame that ended so, with the room for all its ranges
+endRefusal : ℕ → ℕ → Ending → ℕ
+endRefusal need room Stopped = 2
+endRefusal need room Lowered = 14
+endRefusal need room (Ended tail used) = pick (leb need room) 0 9
 
-module _ (s : List ℕ) (total room : ℕ) where
+-- how many counts come after the ranges
+many : Bool → ℕ
+many counted = pick counted 3 0
+
+tail-told : (need room : ℕ) (counted : Bool) (s : List ℕ) (at : ℕ) → endRefusal need room (readTail counted s at) ≡ chain need room (many counted) s at
+unfolding endRefusal readTail chain many
+tail-told need room false s at = refl
+tail-told need room true s at =
+    through (endRefusal need room) (readNumber s at) refl (λ ect0 at1.
+    through (endRefusal need room) (readNumber s at1) refl (λ ect1 at2.
+    through (endRefusal need room) (readNumber s at2) refl (λ ce used. refl)))
+
+module _ (s : List ℕ) (counted : Bool) (total room : ℕ) where
   told : Ranges → ℕ
-  told r = walkRefusal total room (r .walk)
+  told r = endRefusal (2 * (total + 1)) room (readRest counted s (r .walk))
 
   -- the rows of n more lengths and gaps, the first of which leads down by so much further, from high on
   StepRows : ℕ → ℕ → ℕ → ℕ → ℕ → Type 0
   StepRows further n high at refusal =
       Rows s at refusal
-      (λ vs. (length vs < n) × (down further vs ≤ high))
-      (λ vs. (length vs ≤ n) × (high < down further vs))
-      (λ vs. (length vs ≡ n) × (down further vs ≤ high) × (room < 2 * (total + 1)))
-      (λ vs. (length vs ≡ n) × (down further vs ≤ high) × (2 * (total + 1) ≤ room))
+      (λ vs. (length vs < n + many counted) × (down further (take n vs) ≤ high))
+      (λ vs. (length vs ≤ n) × (high < down further (take n vs)))
+      (λ vs. (length vs ≡ n + many counted) × (down further (take n vs) ≤ high) × (room < 2 * (total + 1)))
+      (λ vs. (length vs ≡ n + many counted) × (down further (take n vs) ≤ high) × (2 * (total + 1) ≤ room))
 
-  -- none more
-  no-steps : (further high at : ℕ) → StepRows further 0 high at (pick (leb (2 * (total + 1)) room) 0 9)
-  unfolding StepRows down
+  -- none more: the counts come
+  no-steps : (further high at : ℕ) → StepRows further 0 high at (told (ended (Whole at)))
+  unfolding StepRows told down
   no-steps further high at =
-      split (2 * (total + 1)) room
-      (λ h.
-      rw (le-leb (2 * (total + 1)) room h)
-      (record {
-        three = eqb-false 0 3 refl;
-        two = never (eqb-false 0 2 refl) (nothing (λ vs next p. omega (arith, p .0)));
-        fourteen = never (eqb-false 0 14 refl) (nothing (λ vs next p. none-down vs (p .0) (p .1)));
-        nine = never (eqb-false 0 9 refl) (nothing (λ vs next p. omega (arith, p .2)));
-        accepted = here (at-once (refl, omega arith, h));
-      }))
-      (λ h.
-      rw (lt-leb (2 * (total + 1)) room h)
-      (record {
-        three = eqb-false 9 3 refl;
-        two = never (eqb-false 9 2 refl) (nothing (λ vs next p. omega (arith, p .0)));
-        fourteen = never (eqb-false 9 14 refl) (nothing (λ vs next p. none-down vs (p .0) (p .1)));
-        nine = here (at-once (refl, omega arith, h));
-        accepted = never (eqb-false 9 0 refl) (nothing (λ vs next p. omega (arith, p .2)));
-      }))
-    where
-      none-down : (vs : List ℕ) → length vs ≤ 0 → high < down further vs → ⊥
-      none-down [] l h = omega arith
-      none-down (v ∷ vs) l h = omega arith
+      rw tail-told
+      (rows-map
+      (λ vs. (λ p. (omega arith, omega arith), λ p. omega (arith, p .0)))
+      (λ vs. (λ p. absurd p, λ p. omega (arith, p .1)))
+      (λ vs. (λ p. (omega (arith, p .0), omega arith, p .1), λ p. (omega (arith, p .0), p .2)))
+      (λ vs. (λ p. (omega (arith, p .0), omega arith, p .1), λ p. (omega (arith, p .0), p .2)))
+      (chain-rows (2 * (total + 1)) room (many counted) s at))
 
   -- one more
   step-rows : (further n high at : ℕ) (test : ℕ → Bool) (rest : ℕ → ℕ → ℕ) → ((v : ℕ) → test v ≡ leb (v + further) high)
@@ -171,19 +194,19 @@ module _ (s : List ℕ) (total room : ℕ) where
       })))
 
   tested : (b : Bool) (r : Ranges) → told (pick b r (ended BelowZero)) ≡ pick b (told r) 14
-  unfolding told walkRefusal
+  unfolding told endRefusal
   tested true r = refl
   tested false r = refl
 
   -- a length and a gap, as steps
   range-told : (at high : ℕ) (f : ℕ → ℕ → Ranges)
       → told (range s at high f) ≡ field (readNumber s at) 2 (λ len next. pick (leb len high) (told (f (high - len) next)) 14)
-  unfolding told walkRefusal
+  unfolding told endRefusal
   range-told at high f = through told (readNumber s at) refl (λ len next. tested (leb len high) (before (high - len) high (f (high - len) next)))
 
   below-told : (at low : ℕ) (f : ℕ → ℕ → Ranges)
       → told (below s at low f) ≡ field (readNumber s at) 2 (λ gap next. pick (leb (gap + 2) low) (told (f (low - gap - 2) next)) 14)
-  unfolding told walkRefusal
+  unfolding told endRefusal
   below-told at low f = through told (readNumber s at) refl (λ gap next. tested (leb (gap + 2) low) (f (low - gap - 2) next))
 
   length-test : (high len : ℕ) → leb len high ≡ leb (len + 0) high
@@ -191,7 +214,7 @@ module _ (s : List ℕ) (total room : ℕ) where
 
   -- a first range and left ranges after it
   walk-rows : (left high at : ℕ) → StepRows 0 (suc (2 * left)) high at (told (rangesFrom left s at high))
-  unfolding told walkRefusal rangesFrom
+  unfolding rangesFrom
   walk-rows zero high at =
       rw range-told (step-rows 0 0 high at (λ len. leb len high) _ (length-test high) (λ len next h. no-steps 2 (high - (len + 0)) next))
   walk-rows (suc left) high at =
@@ -210,44 +233,44 @@ module _ (s : List ℕ) (total room : ℕ) where
 abbrev refusal : AckRead → ℕ
 refusal r = ackRefusal (r .answer)
 
-after-walk-told : (largest delay count : ℕ) (pairs xs : List ℕ) (w : Walk) → refusal (afterWalk w largest delay count pairs xs) ≡ walkRefusal count (length xs) w
-unfolding walkRefusal
-after-walk-told largest delay count pairs xs Stops = refl
-after-walk-told largest delay count pairs xs BelowZero = refl
-after-walk-told largest delay count pairs xs (Whole used) = go (leb (2 * (count + 1)) (length xs))
+after-rest-told : (largest delay count : ℕ) (pairs xs : List ℕ) (w : Ending) → refusal (afterRest w largest delay count pairs xs) ≡ endRefusal (2 * (count + 1)) (length xs) w
+unfolding endRefusal
+after-rest-told largest delay count pairs xs Stopped = refl
+after-rest-told largest delay count pairs xs Lowered = refl
+after-rest-told largest delay count pairs xs (Ended tail used) = go (leb (2 * (count + 1)) (length xs))
   where
-    go : (b : Bool) → refusal (pick b (record { answer = Read largest delay (count + 1) used; slice = splice xs 0 pairs }) (refused NoRoom xs)) ≡ pick b 0 9
+    go : (b : Bool) → refusal (pick b (record { answer = Read largest delay (count + 1) used tail; slice = splice xs 0 pairs }) (refused NoRoom xs)) ≡ pick b 0 9
     go true = refl
     go false = refl
 
 -- the rows after the range count
-ranges-rows : (s : List ℕ) (at largest delay count : ℕ) (xs : List ℕ)
-    → Rows s at (refusal (readRanges s at largest delay count xs))
-    (λ vs. (length (largest ∷ delay ∷ count ∷ vs) < 4 + 2 * count) × (down 0 vs ≤ largest))
-    (λ vs. (length (largest ∷ delay ∷ count ∷ vs) ≤ 4 + 2 * count) × (largest < down 0 vs))
-    (λ vs. (length (largest ∷ delay ∷ count ∷ vs) ≡ 4 + 2 * count) × (down 0 vs ≤ largest) × (length xs < 2 * (count + 1)))
-    (λ vs. (length (largest ∷ delay ∷ count ∷ vs) ≡ 4 + 2 * count) × (down 0 vs ≤ largest) × (2 * (count + 1) ≤ length xs))
-unfolding readRanges StepRows told
-ranges-rows s at largest delay count xs =
-    rw after-walk-told
+ranges-rows : (s : List ℕ) (at largest delay count : ℕ) (counted : Bool) (xs : List ℕ)
+    → Rows s at (refusal (readRanges s at largest delay count counted xs))
+    (λ vs. (length (largest ∷ delay ∷ count ∷ vs) < 4 + 2 * count + pick counted 3 0) × (down 0 (take (suc (2 * count)) vs) ≤ largest))
+    (λ vs. (length (largest ∷ delay ∷ count ∷ vs) ≤ 4 + 2 * count) × (largest < down 0 (take (suc (2 * count)) vs)))
+    (λ vs. (length (largest ∷ delay ∷ count ∷ vs) ≡ 4 + 2 * count + pick counted 3 0) × (down 0 (take (suc (2 * count)) vs) ≤ largest) × (length xs < 2 * (count + 1)))
+    (λ vs. (length (largest ∷ delay ∷ count ∷ vs) ≡ 4 + 2 * count + pick counted 3 0) × (down 0 (take (suc (2 * count)) vs) ≤ largest) × (2 * (count + 1) ≤ length xs))
+unfolding readRanges StepRows told many
+ranges-rows s at largest delay count counted xs =
+    rw after-rest-told
     (rows-map
     (λ vs. (λ p. (omega (arith, p .0), p .1), λ p. (omega (arith, p .0), p .1)))
     (λ vs. (λ p. (omega (arith, p .0), p .1), λ p. (omega (arith, p .0), p .1)))
     (λ vs. (λ p. (omega (arith, p .0), p .1, p .2), λ p. (omega (arith, p .0), p .1, p .2)))
     (λ vs. (λ p. (omega (arith, p .0), p .1, p .2), λ p. (omega (arith, p .0), p .1, p .2)))
-    (walk-rows s count (length xs) count largest at))
+    (walk-rows s counted count (length xs) count largest at))
 
-three-fields : (s xs : List ℕ) (at : ℕ)
+three-fields : (s xs : List ℕ) (counted : Bool) (at : ℕ)
     → refusal
     (field (readNumber s at) (refused Cut' xs) (λ largest at1.
     field (readNumber s at1) (refused Cut' xs) (λ delay at2.
     field (readNumber s at2) (refused Cut' xs) (λ count at3.
-    readRanges s at3 largest delay count xs))))
+    readRanges s at3 largest delay count counted xs))))
     ≡ field (readNumber s at) 2 (λ largest at1.
     field (readNumber s at1) 2 (λ delay at2.
     field (readNumber s at2) 2 (λ count at3.
-    refusal (readRanges s at3 largest delay count xs))))
-three-fields s xs at =
+    refusal (readRanges s at3 largest delay count counted xs))))
+three-fields s xs counted at =
     through refusal (readNumber s at) refl (λ largest at1.
     through refusal (readNumber s at1) refl (λ delay at2.
     through refusal (readNumber s at2) refl (λ count at3. refl)))
@@ -255,16 +278,16 @@ three-fields s xs at =
 pub ack-reads : AckReads
 unfolding down
 ack-reads s xs =
-    let r : FrameRows ackType s (refusal (readAck s xs))
-    (λ vs. (length vs < asked vs) × NotBelow vs)
-    (λ vs. (length vs ≤ asked vs) × Below vs)
-    (λ vs. (length vs ≡ asked vs) × NotBelow vs × (length xs < 2 * (count vs + 1)))
-    (λ vs. (length vs ≡ asked vs) × NotBelow vs × (2 * (count vs + 1) ≤ length xs)) =
-    frame-rows refusal ackType s (refused Cut' xs) (refused OtherType' xs) _ refl refl
-    (λ at.
-    rw three-fields
+    let r : FrameRows ackTypes s (refusal (readAck s xs))
+    (λ kind vs. (length vs < asked kind vs) × NotBelow vs)
+    (λ kind vs. (length vs ≤ ofRanges vs) × Below vs)
+    (λ kind vs. (length vs ≡ asked kind vs) × NotBelow vs × (length xs < 2 * (count vs + 1)))
+    (λ kind vs. (length vs ≡ asked kind vs) × NotBelow vs × (2 * (count vs + 1) ≤ length xs)) =
+    frame-rows refusal ackTypes s (refused Cut' xs) (refused OtherType' xs) _ refl refl
+    (λ kind at.
+    rw (three-fields s xs (eqb kind countsType) at)
     (field-rows (omega arith, omega arith) (λ p. omega (arith, p .1)) (λ p. omega (arith, p .0)) (λ p. omega (arith, p .0)) (λ largest at1.
     field-rows (omega arith, omega arith) (λ p. omega (arith, p .1)) (λ p. omega (arith, p .0)) (λ p. omega (arith, p .0)) (λ delay at2.
     field-rows (omega arith, omega arith) (λ p. omega (arith, p .1)) (λ p. omega (arith, p .0)) (λ p. omega (arith, p .0)) (λ count at3.
-    ranges-rows s at3 largest delay count xs))))) in
+    ranges-rows s at3 largest delay count (eqb kind countsType) xs))))) in
     record { three = r .three; two = r .two; fourteen = r .fourteen; nine = r .nine; accepted = r .accepted; others = ack-others (readAck s xs .answer) }

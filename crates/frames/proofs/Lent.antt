@@ -14,12 +14,15 @@ use Rattle.wire.specs.Fields.{formed, field}
 use Rattle.wire.specs.Numbers.{readNumber}
 use Rattle.wire.specs.declared.Number.{Number}
 use Rattle.wire.specs.declared.Number.the-variants.{Value, Ends as Stops}
-use Rattle.frames.specs.Types.{ackType}
-use Rattle.frames.specs.Ack.{Ranges, ended, before, below, rangesFrom, AckRead, refused, afterWalk, readRanges, readAck}
+use Rattle.frames.specs.Types.{countsType, isAck}
+use Rattle.frames.specs.Ack.{Ranges, ended, before, below, rangesFrom, readTail, readRest, AckRead, refused, afterRest, readRanges, readAck}
 use Rattle.frames.specs.Refusals.{ackRefusal}
 use Rattle.frames.specs.Exactly.{AckUnchanged, AckLater}
 use Rattle.frames.specs.declared.Walk.{Walk}
 use Rattle.frames.specs.declared.Walk.the-variants.{Whole, Ends, BelowZero}
+use Rattle.frames.specs.declared.Tail.{Tail}
+use Rattle.frames.specs.declared.Ending.{Ending}
+use Rattle.frames.specs.declared.Ending.the-variants.{Whole as Ended, Ends as Stopped, BelowZero as Low}
 use Rattle.frames.specs.declared.Ack.{Ack}
 use Rattle.frames.specs.declared.Ack.the-variants.{Frame, Ends as Cut, OtherType, BelowZero as Below, NoRoom}
 
@@ -70,43 +73,48 @@ paired (suc left) s at high =
 -- what is to hold of an answer and the slice that it leaves
 record Kept (xs : List ℕ) (r : AckRead) : Type 0 where
   unchanged : (ackRefusal (r .answer) ≡ 0 → ⊥) → r .slice ≡ xs
-  later : (l d ranges used : ℕ) → r .answer ≡ Frame l d ranges used → drop (2 * ranges) (r .slice) ≡ drop (2 * ranges) xs
+  later : (l d ranges used : ℕ) (tail : Tail) → r .answer ≡ Frame l d ranges used tail → drop (2 * ranges) (r .slice) ≡ drop (2 * ranges) xs
 
 -- a refusal leaves it whole
 kept-refused : (a : Ack) (xs : List ℕ) → Kept xs (refused a xs)
-kept-refused a xs = record { unchanged = λ f. refl; later = λ l d ranges used e. refl }
+kept-refused a xs = record { unchanged = λ f. refl; later = λ l d ranges used tail e. refl }
 
-kept-ranges : (s : List ℕ) (at largest delay count : ℕ) (xs : List ℕ) → Kept xs (readRanges s at largest delay count xs)
+kept-ranges : (s : List ℕ) (at largest delay count : ℕ) (counted : Bool) (xs : List ℕ) → Kept xs (readRanges s at largest delay count counted xs)
 unfolding readRanges Paired
-kept-ranges s at largest delay count xs = go (rangesFrom count s at largest .walk) (paired count s at largest)
+kept-ranges s at largest delay count counted xs = go (rangesFrom count s at largest .walk) (paired count s at largest)
   where
     ps : List ℕ
     ps = rangesFrom count s at largest .pairs
 
-    go : (w : Walk) → ((used : ℕ) → w ≡ Whole used → length ps ≡ 2 * suc count) → Kept xs (afterWalk w largest delay count ps xs)
-    go Ends p = kept-refused Cut xs
-    go BelowZero p = kept-refused Below xs
-    go (Whole used) p =
+    end : (w : Ending) → length ps ≡ 2 * suc count → Kept xs (afterRest w largest delay count ps xs)
+    end Stopped p = kept-refused Cut xs
+    end Low p = kept-refused Below xs
+    end (Ended tail used) p =
         pick-all (Kept xs) (leb (2 * (count + 1)) (length xs))
-        (record { unchanged = λ f. absurd (f refl); later = λ l d ranges u e. beyond ranges (length-is ranges e (p used refl)) })
+        (record { unchanged = λ f. absurd (f refl); later = λ l d ranges u t e. beyond ranges (length-is ranges e p) })
         (kept-refused NoRoom xs)
       where
-        length-is : {l d u : ℕ} (ranges : ℕ) → Frame largest delay (count + 1) used ≡ Frame l d ranges u
+        length-is : {l d u : ℕ} {t : Tail} (ranges : ℕ) → Frame largest delay (count + 1) used tail ≡ Frame l d ranges u t
             → length ps ≡ 2 * suc count → length ps ≡ 2 * ranges
         length-is ranges e h = let n : count + 1 ≡ ranges = cc in omega arith
 
         beyond : (ranges : ℕ) → length ps ≡ 2 * ranges → drop (2 * ranges) (splice xs 0 ps) ≡ drop (2 * ranges) xs
         beyond ranges h = drop-at ps (drop (0 + length ps) xs) (2 * ranges) h ∙ rw (zero-add, h)
 
+    go : (w : Walk) → ((used : ℕ) → w ≡ Whole used → length ps ≡ 2 * suc count) → Kept xs (afterRest (readRest counted s w) largest delay count ps xs)
+    go Ends p = kept-refused Cut xs
+    go BelowZero p = kept-refused Below xs
+    go (Whole used) p = end (readTail counted s used) (p used refl)
+
 kept : (s xs : List ℕ) → Kept xs (readAck s xs)
 kept s xs =
     formed-all (Kept xs) (readNumber s 0) (kept-refused Cut xs) (λ kind at shortest.
-    pick-all (Kept xs) (eqb kind ackType)
+    pick-all (Kept xs) (isAck kind)
     (pick-all (Kept xs) shortest
     (field-all (Kept xs) (readNumber s at) (kept-refused Cut xs) (λ largest at1.
     field-all (Kept xs) (readNumber s at1) (kept-refused Cut xs) (λ delay at2.
     field-all (Kept xs) (readNumber s at2) (kept-refused Cut xs) (λ count at3.
-    kept-ranges s at3 largest delay count xs))))
+    kept-ranges s at3 largest delay count (eqb kind countsType) xs))))
     (kept-refused OtherType xs))
     (kept-refused OtherType xs))
 

@@ -6,16 +6,17 @@ use mathlib.Core.Logic.{_↔_, _⊎_, inl, inr, ⊎-elim}
 use mathlib.Core.Bool.{Bool, true, false}
 use mathlib.Core.List.{List, [], _∷_}
 use native.Mathlib.Omega.{arith}
-use borrow.Author.Tests.{eqb-false, eqb-true}
-use lib.Dec.{eqb}
+use borrow.Author.Tests.{eqb-false}
 use Rattle.wire.specs.Bytes.{pick}
 use Rattle.wire.specs.Fields.{formed, field}
 use Rattle.wire.specs.Numbers.{readNumber}
+use Rattle.wire.specs.Exactly.{OneOf}
 use Rattle.wire.specs.Standing.{Stand, none, one}
 use Rattle.wire.specs.declared.Number.{Number}
 use Rattle.wire.specs.declared.Number.the-variants.{Value, Ends}
-use Rattle.frames.specs.Types.{typed}
+use Rattle.frames.specs.Types.{among, typed}
 use Rattle.frames.specs.Exactly.{From, After, OtherType, Cut}
+use Rattle.frames.proofs.Types.{listed, unlisted}
 
 -- the rows of what is read from at on, by what the numbers read there are to be
 pub record Rows (s : List ℕ) (at refusal : ℕ) (cut low short whole : List ℕ → Type 0) : Type 0 where
@@ -113,18 +114,18 @@ rows-map c l h w r = record {
 -- ---- the frame's type
 
 -- the rows of a whole frame
-pub record FrameRows (kind : ℕ) (s : List ℕ) (refusal : ℕ) (cut low short whole : List ℕ → Type 0) : Type 0 where
-  pub three : refusal ≡ 3 ↔ OtherType kind s
-  pub two : refusal ≡ 2 ↔ Cut kind s cut
-  pub fourteen : refusal ≡ 14 ↔ After kind s (λ vs next. low vs)
-  pub nine : refusal ≡ 9 ↔ After kind s (λ vs next. short vs)
-  pub accepted : refusal ≡ 0 ↔ After kind s (λ vs next. whole vs)
+pub record FrameRows (kinds s : List ℕ) (refusal : ℕ) (cut low short whole : ℕ → List ℕ → Type 0) : Type 0 where
+  pub three : refusal ≡ 3 ↔ OtherType kinds s
+  pub two : refusal ≡ 2 ↔ Cut kinds s cut
+  pub fourteen : refusal ≡ 14 ↔ After kinds s (λ kind vs next. low kind vs)
+  pub nine : refusal ≡ 9 ↔ After kinds s (λ kind vs next. short kind vs)
+  pub accepted : refusal ≡ 0 ↔ After kinds s (λ kind vs next. whole kind vs)
 
-typed-rows : {kind : ℕ} {s : List ℕ} (rest : ℕ → ℕ) {cut low short whole : List ℕ → Type 0}
-    → ((at : ℕ) → Rows s at (rest at) cut low short whole) → FrameRows kind s (typed kind s 2 3 rest) cut low short whole
-typed-rows {kind} {s} rest {cut} {low} {short} {whole} rows = go (readNumber s 0) refl
+typed-rows : {kinds s : List ℕ} (rest : ℕ → ℕ → ℕ) {cut low short whole : ℕ → List ℕ → Type 0}
+    → ((kind at : ℕ) → Rows s at (rest kind at) (cut kind) (low kind) (short kind) (whole kind)) → FrameRows kinds s (typed kinds s 2 3 rest) cut low short whole
+typed-rows {kinds} {s} rest {cut} {low} {short} {whole} rows = go (readNumber s 0) refl
   where
-    another : {v next : ℕ} {b : Bool} → readNumber s 0 ≡ Value v next b → ((v ≡ kind) × (b ≡ true) → ⊥) → FrameRows kind s 3 cut low short whole
+    another : {v next : ℕ} {b : Bool} → readNumber s 0 ≡ Value v next b → (OneOf v kinds × (b ≡ true) → ⊥) → FrameRows kinds s 3 cut low short whole
     another {v} {next} {b} e f = record {
       three = here (record { value = v; next = next; shortest = b; whole = e; other = f });
       two = never (eqb-false 3 2 refl) (⊎-elim (no-value e) no);
@@ -133,35 +134,42 @@ typed-rows {kind} {s} rest {cut} {low} {short} {whole} rows = go (readNumber s 0
       accepted = never (eqb-false 3 0 refl) no;
     }
       where
-        no : {P : List ℕ → ℕ → Type 0} → After kind s P → ⊥
-        no a = let t = a .type in f (cc, cc)
+        no : {P : ℕ → List ℕ → ℕ → Type 0} → After kinds s P → ⊥
+        no a = let t = a .type in let m : a .kind ≡ v = cc in f (subst (λ (k : ℕ). OneOf k kinds) m (a .right), cc)
 
-    right : (next : ℕ) → readNumber s 0 ≡ Value kind next true → FrameRows kind s (rest next) cut low short whole
-    right next e =
-        let r = rows next in
+    right : (kind next : ℕ) → readNumber s 0 ≡ Value kind next true → OneOf kind kinds → FrameRows kinds s (rest kind next) cut low short whole
+    right kind next e o =
+        let r = rows kind next in
         record {
-          three = (λ q. absurd (r .three q), λ o. absurd (o .other (same (o .whole))));
-          two = (λ q. inr (record { start = next; type = e; fields = r .two .0 q }), ⊎-elim (λ f. absurd (no-value e f)) (λ a. r .two .1 (there a)));
-          fourteen = (λ q. record { start = next; type = e; fields = r .fourteen .0 q }, λ a. r .fourteen .1 (there a));
-          nine = (λ q. record { start = next; type = e; fields = r .nine .0 q }, λ a. r .nine .1 (there a));
-          accepted = (λ q. record { start = next; type = e; fields = r .accepted .0 q }, λ a. r .accepted .1 (there a));
+          three = (λ q. absurd (r .three q), λ p. absurd (p .other (same (p .whole))));
+          two = (λ q. inr (found (r .two .0 q)), ⊎-elim (λ f. absurd (no-value e f)) (λ a. r .two .1 (there a)));
+          fourteen = (λ q. found (r .fourteen .0 q), λ a. r .fourteen .1 (there a));
+          nine = (λ q. found (r .nine .0 q), λ a. r .nine .1 (there a));
+          accepted = (λ q. found (r .accepted .0 q), λ a. r .accepted .1 (there a));
         }
       where
-        same : {v n : ℕ} {b : Bool} → readNumber s 0 ≡ Value v n b → (v ≡ kind) × (b ≡ true)
-        same t = (cc, cc)
+        same : {v n : ℕ} {b : Bool} → readNumber s 0 ≡ Value v n b → OneOf v kinds × (b ≡ true)
+        same {v} t = let m : kind ≡ v = cc in (subst (λ (k : ℕ). OneOf k kinds) m o, cc)
 
-        there : {P : List ℕ → ℕ → Type 0} → After kind s P → From s next P
-        there {P} a = let t = a .type in let n : a .start ≡ next = cc in subst (λ (m : ℕ). From s m P) n (a .fields)
+        found : {P : ℕ → List ℕ → ℕ → Type 0} → From s next (P kind) → After kinds s P
+        found f = record { kind = kind; start = next; type = e; right = o; fields = f }
 
-    judge : (v next : ℕ) (b : Bool) → readNumber s 0 ≡ Value v next b → (a : Bool) → eqb v kind ≡ a
-        → FrameRows kind s (pick a (pick b (rest next) 3) 3) cut low short whole
-    judge v next true e true p = let m : v ≡ kind = eqb-true v kind p in right next (rw m at e)
+        there : {P : ℕ → List ℕ → ℕ → Type 0} → After kinds s P → From s next (P kind)
+        there {P} a =
+            let t = a .type in
+            let n : a .start ≡ next = cc in
+            let m : a .kind ≡ kind = cc in
+            subst (λ (k : ℕ). From s next (P k)) m (subst (λ (m : ℕ). From s m (P (a .kind))) n (a .fields))
+
+    judge : (v next : ℕ) (b : Bool) → readNumber s 0 ≡ Value v next b → (a : Bool) → among v kinds ≡ a
+        → FrameRows kinds s (pick a (pick b (rest v next) 3) 3) cut low short whole
+    judge v next true e true p = right v next e (listed v kinds p)
     judge v next false e true p = another e (λ m. let z : _≡_ {A = ℕ} 0 1 = cc in omega arith)
-    judge v next b e false p = another e (λ m. eqb-false v kind p (m .0))
+    judge v next b e false p = another e (λ m. unlisted v kinds p (m .0))
 
     go : (n : Number) → readNumber s 0 ≡ n
-        → FrameRows kind s (formed n 2 (λ v next shortest. pick (eqb v kind) (pick shortest (rest next) 3) 3)) cut low short whole
-    go (Value v next b) e = judge v next b e (eqb v kind) refl
+        → FrameRows kinds s (formed n 2 (λ v next shortest. pick (among v kinds) (pick shortest (rest v next) 3) 3)) cut low short whole
+    go (Value v next b) e = judge v next b e (among v kinds) refl
     go Ends e = record {
       three = never (eqb-false 2 3 refl) (λ o. no-value (o .whole) e);
       two = here (inl e);
@@ -182,13 +190,13 @@ pub through : {A : Type 0} (g : A → ℕ) (r : Number) {x : A} {y : ℕ} {f : �
 through g r e h = through-formed g r e (λ v n b. h v n)
 
 -- the rows of a frame, by those of what comes after its type: g gives the number of an answer
-pub frame-rows : {A : Type 0} (g : A → ℕ) (kind : ℕ) (s : List ℕ) (ends other : A) (f : ℕ → A) {cut low short whole : List ℕ → Type 0}
+pub frame-rows : {A : Type 0} (g : A → ℕ) (kinds s : List ℕ) (ends other : A) (f : ℕ → ℕ → A) {cut low short whole : ℕ → List ℕ → Type 0}
     → g ends ≡ 2 → g other ≡ 3
-    → ((at : ℕ) → Rows s at (g (f at)) cut low short whole) → FrameRows kind s (g (typed kind s ends other f)) cut low short whole
-frame-rows g kind s ends other f {cut} {low} {short} {whole} e o r =
-    subst (λ (n : ℕ). FrameRows kind s n cut low short whole)
-    (sym (through-formed g (readNumber s 0) e (λ v n b. go (eqb v kind) b (f n))))
-    (typed-rows (λ at. g (f at)) r)
+    → ((kind at : ℕ) → Rows s at (g (f kind at)) (cut kind) (low kind) (short kind) (whole kind)) → FrameRows kinds s (g (typed kinds s ends other f)) cut low short whole
+frame-rows g kinds s ends other f {cut} {low} {short} {whole} e o r =
+    subst (λ (n : ℕ). FrameRows kinds s n cut low short whole)
+    (sym (through-formed g (readNumber s 0) e (λ v n b. go (among v kinds) b (f v n))))
+    (typed-rows (λ kind at. g (f kind at)) r)
   where
     go : (a b : Bool) (x : _) → g (pick a (pick b x other) other) ≡ pick a (pick b (g x) 3) 3
     go true true x = refl

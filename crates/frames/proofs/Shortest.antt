@@ -1,25 +1,26 @@
 -- An accepted frame in shortest form is what its writer writes: its numbers stand in the bytes, and as long as the writer's they are the writer's.
 -- Assumes nothing.
 use Prim.Native.Nat.{ℕ}
-use mathlib.Core.Path.{_≡_, refl, _∙_}
+use mathlib.Core.Path.{_≡_, refl, ap, _∙_}
 use mathlib.Core.Bool.{Bool, true, false}
-use mathlib.Core.List.{List}
+use mathlib.Core.Logic.{⊎-elim}
+use mathlib.Core.List.{List, [], _∷_}
 use native.Mathlib.Omega.{arith}
-use borrow.Author.Tests.{eqb-true}
-use lib.Dec.{eqb}
 use Rattle.wire.specs.Bytes.{pick, Octets}
 use Rattle.wire.specs.Fields.{formed, field}
 use Rattle.wire.specs.Numbers.{readNumber}
+use Rattle.wire.specs.Exactly.{OneOf}
 use Rattle.wire.specs.Standing.{Stand, none, one}
 use Rattle.wire.specs.declared.Number.{Number}
 use Rattle.wire.specs.declared.Number.the-variants.{Value, Ends}
 use Rattle.wire.proofs.Standing.{stand-kept}
-use Rattle.frames.specs.Types.{frequencyType, immediateType, typed}
+use Rattle.frames.specs.Types.{frequencyType, immediateType, among, typed}
 use Rattle.frames.specs.Frequency.{readFrequency, frequency}
 use Rattle.frames.specs.Immediate.{readImmediate, immediate}
 use Rattle.frames.specs.EachWay.{Shortest, FrequencyReadWrite, ImmediateReadWrite}
 use Rattle.frames.specs.declared.Frequency.the-variants.{Frame, Ends as Cut, OtherType}
 use Rattle.frames.specs.declared.Immediate.the-variants.{Frame as Alone, Ends as CutAlone, OtherType as Another}
+use Rattle.frames.proofs.Types.{listed}
 
 -- ---- an answer that is no refusal tells what was read
 
@@ -36,16 +37,19 @@ pub test-held : {R : Type 0} (b : Bool) {x y z : R} → pick b x z ≡ y → (z 
 test-held true e f = (refl, e)
 test-held false e f = absurd (f e)
 
-pub type-read : {R : Type 0} (kind : ℕ) (s : List ℕ) {ends other y : R} (f : ℕ → R)
-    → typed kind s ends other f ≡ y → (ends ≡ y → ⊥) → (other ≡ y → ⊥)
-    → (at : ℕ) × (readNumber s 0 ≡ Value kind at true) × (f at ≡ y)
-type-read kind s f e not-cut not-other =
+pub type-read : {R : Type 0} (kinds s : List ℕ) {ends other y : R} (f : ℕ → ℕ → R)
+    → typed kinds s ends other f ≡ y → (ends ≡ y → ⊥) → (other ≡ y → ⊥)
+    → (kind : ℕ) × (at : ℕ) × OneOf kind kinds × (readNumber s 0 ≡ Value kind at true) × (f kind at ≡ y)
+type-read kinds s f e not-cut not-other =
     let r = formed-read (readNumber s 0) e not-cut in
-    let a = test-held (eqb (r .0) kind) (r .4) not-other in
+    let a = test-held (among (r .0) kinds) (r .4) not-other in
     let b = test-held (r .2) (a .1) not-other in
-    let m : r .0 ≡ kind = eqb-true (r .0) kind (a .0) in
     let n : r .2 ≡ true = b .0 in
-    (r .1, r .3 ∙ rw (m, n), b .1)
+    (r .0, r .1, listed (r .0) kinds (a .0), r .3 ∙ rw n, b .1)
+
+-- the type of a reader that takes one
+pub the-type : {v kind at : ℕ} {n : Number} → OneOf v (kind ∷ []) → n ≡ Value v at true → n ≡ Value kind at true
+the-type {at = at} o e = e ∙ ap (λ (v : ℕ). Value v at true) (⊎-elim (λ q. q) (λ z. absurd z) o)
 
 -- ---- ACK_FREQUENCY
 
@@ -58,12 +62,12 @@ module _ (s : List ℕ) (q t d r used : ℕ) (e : readFrequency s ≡ Frame q t 
 
   pub frequency-read : Stand s 0 (frequency q t d r) used
   frequency-read =
-      let k = type-read frequencyType s _ e no-cut no-other in
-      let a = field-read (readNumber s (k .0)) (k .2) no-cut in
+      let k = type-read (frequencyType ∷ []) s _ e no-cut no-other in
+      let a = field-read (readNumber s (k .1)) (k .4) no-cut in
       let b = field-read (readNumber s (a .1)) (a .4) no-cut in
       let c = field-read (readNumber s (b .1)) (b .4) no-cut in
       let f = field-read (readNumber s (c .1)) (c .4) no-cut in
-      same (f .4) (one (k .1) (one (a .3) (one (b .3) (one (c .3) (one (f .3) none)))))
+      same (f .4) (one (the-type (k .2) (k .3)) (one (a .3) (one (b .3) (one (c .3) (one (f .3) none)))))
     where
       same : {q' t' d' r' used' : ℕ} → Frame q' t' d' r' used' ≡ Frame q t d r used → Stand s 0 (frequency q' t' d' r') used'
           → Stand s 0 (frequency q t d r) used
@@ -86,8 +90,8 @@ module _ (s : List ℕ) (used : ℕ) (e : readImmediate s ≡ Alone used) where
 
   pub immediate-read : Stand s 0 immediate used
   immediate-read =
-      let k = type-read immediateType s Alone e no-cut-alone no-another in
-      same (k .2) (one (k .1) none)
+      let k = type-read (immediateType ∷ []) s (λ kind used. Alone used) e no-cut-alone no-another in
+      same (k .4) (one (the-type (k .2) (k .3)) none)
     where
       same : {used' : ℕ} → Alone used' ≡ Alone used → Stand s 0 immediate used' → Stand s 0 immediate used
       same {used'} h st = let h1 : used' ≡ used = cc in rw h1 at st

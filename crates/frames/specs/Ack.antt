@@ -1,16 +1,21 @@
--- "Three frames": ACK (RFC 9000 section 19.3), its ranges, and the lent slice that they are written to.
+-- "Three frames": ACK (RFC 9000 section 19.3), its ranges, the counts after them (02, No. 2), and the lent slice that the ranges are written to.
 use Prim.Native.Nat.{ℕ, zero, suc, _+_, _-_, _*_, _/_, _≤_}
-use mathlib.Core.List.{List, [], _∷_}
-use lib.Dec.{leb}
+use mathlib.Core.Bool.{Bool, true, false}
+use mathlib.Core.List.{List, [], _∷_, _++_}
+use lib.Dec.{leb, eqb}
 use lib.ListN.{length}
 use Rattle.wire.specs.Bytes.{pick, splice}
 use Rattle.wire.specs.Fields.{field}
 use Rattle.wire.specs.Numbers.{limit, readNumber}
 use Rattle.frames.specs.declared.Walk.{Walk}
 use Rattle.frames.specs.declared.Walk.the-variants.{Whole, Ends, BelowZero}
+use Rattle.frames.specs.declared.Tail.{Tail}
+use Rattle.frames.specs.declared.Tail.the-variants.{Nothing, Counts}
+use Rattle.frames.specs.declared.Ending.{Ending}
+use Rattle.frames.specs.declared.Ending.the-variants.{Whole as Ended, Ends as Stops, BelowZero as Low}
 use Rattle.frames.specs.declared.Ack.{Ack}
 use Rattle.frames.specs.declared.Ack.the-variants.{Frame, Ends as Cut, OtherType, BelowZero as Below, NoRoom}
-use Rattle.frames.specs.Types.{ackType, typed}
+use Rattle.frames.specs.Types.{ackType, countsType, ackTypes, typed}
 
 -- ---- the ranges
 
@@ -45,6 +50,23 @@ rangesFrom zero s at largest = range s at largest (λ smallest next. ended (Whol
 rangesFrom (suc count) s at largest =
     range s at largest (λ smallest mid. below s mid smallest (λ lower next. rangesFrom count s next lower))
 
+-- ---- what comes after the ranges: nothing for type 02, and "then three ECN counts" for type 03 (02, No. 2)
+
+-- "ECT0 Count (i), ECT1 Count (i), ECN-CE Count (i)" (RFC 9000 section 19.3.2)
+unfoldable pub readTail : Bool → List ℕ → ℕ → Ending
+readTail false s at = Ended Nothing at
+readTail true s at =
+    field (readNumber s at) Stops (λ ect0 at1.
+    field (readNumber s at1) Stops (λ ect1 at2.
+    field (readNumber s at2) Stops (λ ce used.
+    Ended (Counts ect0 ect1 ce) used)))
+
+-- after a walk over the ranges that ended so
+abbrev pub readRest : Bool → List ℕ → Walk → Ending
+readRest counted s Ends = Stops
+readRest counted s BelowZero = Low
+readRest counted s (Whole used) = readTail counted s used
+
 -- ---- the reader
 
 -- the answer, and the lent slice after it
@@ -57,27 +79,27 @@ abbrev pub refused : Ack → List ℕ → AckRead
 refused a xs = record { answer = a; slice = xs }
 
 -- "checks the whole frame, 2 and 14 included, before it judges room": two elements for each range
-abbrev pub afterWalk : Walk → ℕ → ℕ → ℕ → List ℕ → List ℕ → AckRead
-afterWalk Ends largest delay count pairs xs = refused Cut xs
-afterWalk BelowZero largest delay count pairs xs = refused Below xs
-afterWalk (Whole used) largest delay count pairs xs =
+abbrev pub afterRest : Ending → ℕ → ℕ → ℕ → List ℕ → List ℕ → AckRead
+afterRest Stops largest delay count pairs xs = refused Cut xs
+afterRest Low largest delay count pairs xs = refused Below xs
+afterRest (Ended tail used) largest delay count pairs xs =
     pick (leb (2 * (count + 1)) (length xs))
-    (record { answer = Frame largest delay (count + 1) used; slice = splice xs 0 pairs })
+    (record { answer = Frame largest delay (count + 1) used tail; slice = splice xs 0 pairs })
     (refused NoRoom xs)
 
--- the walk over the ranges from at on, and what is made of it
-unfoldable pub readRanges : List ℕ → ℕ → ℕ → ℕ → ℕ → List ℕ → AckRead
-readRanges s at largest delay count xs =
-    afterWalk (rangesFrom count s at largest .walk) largest delay count (rangesFrom count s at largest .pairs) xs
+-- the ranges from at on and what comes after them, and what is made of it
+unfoldable pub readRanges : List ℕ → ℕ → ℕ → ℕ → ℕ → Bool → List ℕ → AckRead
+readRanges s at largest delay count counted xs =
+    afterRest (readRest counted s (rangesFrom count s at largest .walk)) largest delay count (rangesFrom count s at largest .pairs) xs
 
--- "type 02, largest, delay, range count", then the ranges
+-- "type 02, largest, delay, range count", then the ranges; type 03 has "the same fields, then three ECN counts"
 abbrev pub readAck : List ℕ → List ℕ → AckRead
 readAck s xs =
-    typed ackType s (refused Cut xs) (refused OtherType xs) (λ at0.
+    typed ackTypes s (refused Cut xs) (refused OtherType xs) (λ kind at0.
     field (readNumber s at0) (refused Cut xs) (λ largest at1.
     field (readNumber s at1) (refused Cut xs) (λ delay at2.
     field (readNumber s at2) (refused Cut xs) (λ count at3.
-    readRanges s at3 largest delay count xs))))
+    readRanges s at3 largest delay count (eqb kind countsType) xs))))
 
 -- ---- the numbers of a frame that says given ranges: smallest and largest of each, newest first
 
@@ -88,11 +110,24 @@ gapsFrom above (smallest ∷ []) = []
 gapsFrom above (smallest ∷ largest ∷ pairs) = (above - largest - 2) ∷ (largest - smallest) ∷ gapsFrom smallest pairs
 
 -- "type 02, largest, delay, range count, first range, then gap and length pairs"; the count is of the ranges after the first
-unfoldable pub ackNumbers : ℕ → List ℕ → List ℕ
-ackNumbers delay [] = []
-ackNumbers delay (smallest ∷ []) = []
-ackNumbers delay (smallest ∷ largest ∷ pairs) =
-    ackType ∷ largest ∷ delay ∷ (length pairs / 2) ∷ (largest - smallest) ∷ gapsFrom smallest pairs
+unfoldable pub rangeNumbers : ℕ → ℕ → List ℕ → List ℕ
+rangeNumbers kind delay [] = []
+rangeNumbers kind delay (smallest ∷ []) = []
+rangeNumbers kind delay (smallest ∷ largest ∷ pairs) =
+    kind ∷ largest ∷ delay ∷ (length pairs / 2) ∷ (largest - smallest) ∷ gapsFrom smallest pairs
+
+-- the type of a frame with that tail, and the numbers of the tail
+abbrev pub typeOf : Tail → ℕ
+typeOf Nothing = ackType
+typeOf (Counts ect0 ect1 ce) = countsType
+
+abbrev pub countsOf : Tail → List ℕ
+countsOf Nothing = []
+countsOf (Counts ect0 ect1 ce) = ect0 ∷ ect1 ∷ ce ∷ []
+
+-- "the same fields, then three ECN counts": one frame for both types
+abbrev pub ackNumbers : Tail → ℕ → List ℕ → List ℕ
+ackNumbers tail delay pairs = rangeNumbers (typeOf tail) delay pairs ++ countsOf tail
 
 -- each range holds a number, and a number is missing between it and the one above
 unfoldable pub RangesBelow : ℕ → List ℕ → Type 0

@@ -11,6 +11,7 @@ use Rattle.frames.specs.Immediate.{readImmediate, immediate}
 use Rattle.frames.specs.Ack.{readAck, ackNumbers, AckRanges}
 use Rattle.frames.specs.declared.Frequency.the-variants.{Frame}
 use Rattle.frames.specs.declared.Immediate.the-variants.{Frame as Alone}
+use Rattle.frames.specs.declared.Tail.{Tail}
 use Rattle.frames.specs.declared.Ack.the-variants.{Frame as Read}
 
 -- ---- written, then read
@@ -24,11 +25,12 @@ FrequencyWriteRead =
 abbrev pub ImmediateWriteRead : Type 0
 ImmediateWriteRead = (xs : List ℕ) (used : ℕ) → putAnswer xs 0 immediate ≡ Done used → readImmediate (putBytes xs 0 immediate) ≡ Alone used
 
--- ACK, with room for its ranges
+-- ACK of both types, with room for its ranges
 abbrev pub AckWriteRead : Type 0
 AckWriteRead =
-    (buf xs pairs : List ℕ) (delay used : ℕ) → AckRanges pairs → delay ≤ limit → length pairs ≤ length xs → putAnswer buf 0 (ackNumbers delay pairs) ≡ Done used
-    → readAck (putBytes buf 0 (ackNumbers delay pairs)) xs ≡ record { answer = Read (getD pairs 1 0) delay (length pairs / 2) used; slice = splice xs 0 pairs }
+    (buf xs pairs : List ℕ) (tail : Tail) (delay used : ℕ) → AckRanges pairs → delay ≤ limit → length pairs ≤ length xs
+    → putAnswer buf 0 (ackNumbers tail delay pairs) ≡ Done used
+    → readAck (putBytes buf 0 (ackNumbers tail delay pairs)) xs ≡ record { answer = Read (getD pairs 1 0) delay (length pairs / 2) used tail; slice = splice xs 0 pairs }
 
 -- ---- read, then written
 
@@ -49,14 +51,14 @@ FrequencyReadWrite = (s : List ℕ) (q t d r used : ℕ) → Octets s → readFr
 abbrev pub ImmediateReadWrite : Type 0
 ImmediateReadWrite = (s : List ℕ) (used : ℕ) → Octets s → readImmediate s ≡ Alone used → Shortest s used immediate
 
--- ACK: the pairs that it wrote to the lent slice are its ranges, newest first and a number missing between two, and with its delay they are the frame
-pub record AckTells (s pairs : List ℕ) (largest delay ranges used : ℕ) : Type 0 where
+-- ACK: the pairs that it wrote to the lent slice are its ranges, newest first and a number missing between two, and with its delay and its tail they are the frame
+pub record AckTells (s pairs : List ℕ) (largest delay ranges used : ℕ) (tail : Tail) : Type 0 where
   pub many : length pairs ≡ 2 * ranges
   pub descend : AckRanges pairs
   pub first : getD pairs 1 0 ≡ largest
-  pub shortest : Shortest s used (ackNumbers delay pairs)
+  pub shortest : Shortest s used (ackNumbers tail delay pairs)
 
 abbrev pub AckReadWrite : Type 0
 AckReadWrite =
-    (s xs : List ℕ) (largest delay ranges used : ℕ) → Octets s → readAck s xs .answer ≡ Read largest delay ranges used
-    → AckTells s (take (2 * ranges) (readAck s xs .slice)) largest delay ranges used
+    (s xs : List ℕ) (largest delay ranges used : ℕ) (tail : Tail) → Octets s → readAck s xs .answer ≡ Read largest delay ranges used tail
+    → AckTells s (take (2 * ranges) (readAck s xs .slice)) largest delay ranges used tail

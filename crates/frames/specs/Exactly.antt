@@ -1,20 +1,23 @@
 -- The rows of the refusal table for the three frames: each number is given exactly when its row says, in the table's order, and no other number.
-use Prim.Native.Nat.{ℕ, _+_, _-_, _*_, _≤_, _<_}
+use Prim.Native.Nat.{ℕ, suc, _+_, _-_, _*_, _≤_, _<_}
 use mathlib.Core.Path.{_≡_}
 use mathlib.Core.Logic.{_↔_, _⊎_}
 use mathlib.Core.Bool.{Bool, true}
 use mathlib.Core.List.{List, [], _∷_}
-use lib.ListN.{length, getD, drop}
+use lib.Dec.{eqb}
+use lib.ListN.{length, getD, take, drop}
+use Rattle.wire.specs.Bytes.{pick}
 use Rattle.wire.specs.Numbers.{encodeAll, readNumber, putAnswer}
 use Rattle.wire.specs.Refusals.{putRefusal}
 use Rattle.wire.specs.Exactly.{OneOf, Writes, Places}
 use Rattle.wire.specs.Standing.{Stand}
 use Rattle.wire.specs.declared.Number.the-variants.{Value, Ends}
-use Rattle.frames.specs.Types.{frequencyType, immediateType, ackType}
+use Rattle.frames.specs.Types.{frequencyType, immediateType, countsType, ackTypes}
 use Rattle.frames.specs.Frequency.{readFrequency, frequency}
 use Rattle.frames.specs.Immediate.{readImmediate, immediate}
 use Rattle.frames.specs.Ack.{readAck}
 use Rattle.frames.specs.Refusals.{frequencyRefusal, immediateRefusal, ackRefusal}
+use Rattle.frames.specs.declared.Tail.{Tail}
 use Rattle.frames.specs.declared.Ack.the-variants.{Frame}
 
 -- ---- what stands in the bytes
@@ -26,31 +29,33 @@ pub record From (s : List ℕ) (at : ℕ) (P : List ℕ → ℕ → Type 0) : Ty
   pub stand : Stand s at numbers next
   pub holds : P numbers next
 
--- the type is kind in its shortest form, and numbers of which P holds stand after it
-pub record After (kind : ℕ) (s : List ℕ) (P : List ℕ → ℕ → Type 0) : Type 0 where
+-- the type is one of those in its shortest form, and numbers of which P holds stand after it
+pub record After (kinds s : List ℕ) (P : ℕ → List ℕ → ℕ → Type 0) : Type 0 where
+  pub kind : ℕ
   pub start : ℕ
   pub type : readNumber s 0 ≡ Value kind start true
-  pub fields : From s start P
+  pub right : OneOf kind kinds
+  pub fields : From s start (P kind)
 
 -- ---- the rows
 
 -- 3: the type is a whole number, and another one or not in shortest form
-pub record OtherType (kind : ℕ) (s : List ℕ) : Type 0 where
+pub record OtherType (kinds s : List ℕ) : Type 0 where
   pub value : ℕ
   pub next : ℕ
   pub shortest : Bool
   pub whole : readNumber s 0 ≡ Value value next shortest
-  pub other : (value ≡ kind) × (shortest ≡ true) → ⊥
+  pub other : OneOf value kinds × (shortest ≡ true) → ⊥
 
 -- 2: the bytes end inside the type, or, the type being right, inside a number that those before it ask for
-abbrev pub Cut : ℕ → List ℕ → (List ℕ → Type 0) → Type 0
-Cut kind s Asks = (readNumber s 0 ≡ Ends) ⊎ After kind s (λ vs next. Asks vs × (readNumber s next ≡ Ends))
+abbrev pub Cut : List ℕ → List ℕ → (ℕ → List ℕ → Type 0) → Type 0
+Cut kinds s Asks = (readNumber s 0 ≡ Ends) ⊎ After kinds s (λ kind vs next. Asks kind vs × (readNumber s next ≡ Ends))
 
 -- a frame of n numbers after its type
-pub record Reads (kind n : ℕ) (s : List ℕ) (refusal : ℕ) : Type 0 where
-  pub three : refusal ≡ 3 ↔ OtherType kind s
-  pub two : refusal ≡ 2 ↔ Cut kind s (λ vs. length vs < n)
-  pub accepted : refusal ≡ 0 ↔ After kind s (λ vs next. length vs ≡ n)
+pub record Reads (type n : ℕ) (s : List ℕ) (refusal : ℕ) : Type 0 where
+  pub three : refusal ≡ 3 ↔ OtherType (type ∷ []) s
+  pub two : refusal ≡ 2 ↔ Cut (type ∷ []) s (λ kind vs. length vs < n)
+  pub accepted : refusal ≡ 0 ↔ After (type ∷ []) s (λ kind vs next. length vs ≡ n)
   pub others : OneOf refusal (0 ∷ 2 ∷ 3 ∷ [])
 
 -- ACK_FREQUENCY: four numbers
@@ -71,30 +76,42 @@ largest vs = getD vs 0 0
 abbrev pub count : List ℕ → ℕ
 count vs = getD vs 2 0
 
--- how many the frame has: "largest, delay, range count, first range, then gap and length pairs"
-abbrev pub asked : List ℕ → ℕ
-asked vs = 4 + 2 * count vs
+-- how many tell the ranges: "largest, delay, range count, first range, then gap and length pairs"
+abbrev pub ofRanges : List ℕ → ℕ
+ofRanges vs = 4 + 2 * count vs
+
+-- how many counts come after them: "the same fields, then three ECN counts" (02, No. 2)
+abbrev pub counts : ℕ → ℕ
+counts kind = pick (eqb kind countsType) 3 0
+
+-- how many the frame of that type has
+abbrev pub asked : ℕ → List ℕ → ℕ
+asked kind vs = ofRanges vs + counts kind
 
 -- how far lengths and gaps lead down, in turn: a length as far as it says, and a gap 2 further
 unfoldable pub down : ℕ → List ℕ → ℕ
 down further [] = 0
 down further (v ∷ vs) = v + further + down (2 - further) vs
 
+-- the lengths and gaps among them
+abbrev pub steps : List ℕ → List ℕ
+steps vs = take (suc (2 * count vs)) (drop 3 vs)
+
 -- 14: from the largest the ranges lead below number 0
 abbrev pub Below : List ℕ → Type 0
-Below vs = largest vs < down 0 (drop 3 vs)
+Below vs = largest vs < down 0 (steps vs)
 
 -- they do not, so far
 abbrev pub NotBelow : List ℕ → Type 0
-NotBelow vs = down 0 (drop 3 vs) ≤ largest vs
+NotBelow vs = down 0 (steps vs) ≤ largest vs
 
--- 14 and 2 are afterWalk number by number, and 9 last: two elements of room for each range
+-- 14 and 2 are judged number by number, 2 inside the counts too, and 9 last: two elements of room for each range
 pub record ReadsAck (s : List ℕ) (room refusal : ℕ) : Type 0 where
-  pub three : refusal ≡ 3 ↔ OtherType ackType s
-  pub two : refusal ≡ 2 ↔ Cut ackType s (λ vs. (length vs < asked vs) × NotBelow vs)
-  pub fourteen : refusal ≡ 14 ↔ After ackType s (λ vs next. (length vs ≤ asked vs) × Below vs)
-  pub nine : refusal ≡ 9 ↔ After ackType s (λ vs next. (length vs ≡ asked vs) × NotBelow vs × (room < 2 * (count vs + 1)))
-  pub accepted : refusal ≡ 0 ↔ After ackType s (λ vs next. (length vs ≡ asked vs) × NotBelow vs × (2 * (count vs + 1) ≤ room))
+  pub three : refusal ≡ 3 ↔ OtherType ackTypes s
+  pub two : refusal ≡ 2 ↔ Cut ackTypes s (λ kind vs. (length vs < asked kind vs) × NotBelow vs)
+  pub fourteen : refusal ≡ 14 ↔ After ackTypes s (λ kind vs next. (length vs ≤ ofRanges vs) × Below vs)
+  pub nine : refusal ≡ 9 ↔ After ackTypes s (λ kind vs next. (length vs ≡ asked kind vs) × NotBelow vs × (room < 2 * (count vs + 1)))
+  pub accepted : refusal ≡ 0 ↔ After ackTypes s (λ kind vs next. (length vs ≡ asked kind vs) × NotBelow vs × (2 * (count vs + 1) ≤ room))
   pub others : OneOf refusal (0 ∷ 2 ∷ 3 ∷ 9 ∷ 14 ∷ [])
 
 -- ACK, with the lent slice xs
@@ -121,4 +138,4 @@ AckUnchanged = (s xs : List ℕ) → (ackRefusal (readAck s xs .answer) ≡ 0 �
 -- an accepted one "touches no later element"
 abbrev pub AckLater : Type 0
 AckLater =
-    (s xs : List ℕ) (l d ranges used : ℕ) → readAck s xs .answer ≡ Frame l d ranges used → drop (2 * ranges) (readAck s xs .slice) ≡ drop (2 * ranges) xs
+    (s xs : List ℕ) (l d ranges used : ℕ) (tail : Tail) → readAck s xs .answer ≡ Frame l d ranges used tail → drop (2 * ranges) (readAck s xs .slice) ≡ drop (2 * ranges) xs

@@ -18,7 +18,7 @@ readThresholds s at =
 
 -- "type 0xaf, written 40 af; then" these four
 abbrev pub readFrequency : List ℕ → Frequency
-readFrequency s = typed frequencyType s Ends OtherType (λ at. readThresholds s at)
+readFrequency s = typed (frequencyType ∷ []) s Ends OtherType (λ kind at. readThresholds s at)
 
 -- the numbers that its writer writes: the type, "then sequence, [..]"
 abbrev pub frequency : ℕ → ℕ → ℕ → ℕ → List ℕ

@@ -7,7 +7,7 @@ use Rattle.frames.specs.declared.Immediate.the-variants.{Frame, Ends, Ot
 
 -- "type 1f alone"
 abbrev pub readImmediate : List ℕ → Immediate
-readImmediate s = typed immediateType s Ends OtherType (λ used. Frame used)
+readImmediate s = typed (immediateType ∷ []) s Ends OtherType (λ kind used. Frame used)
 
 -- the number that its writer writes
 abbrev pub immediate : List ℕ

@@ -15,7 +15,7 @@ immediateRefusal immediate.the-variants.Ends = 2
 immediateRefusal immediate.the-variants.OtherType = 3
 
 abbrev pub ackRefusal : ack.Ack → ℕ
-ackRefusal (ack.the-variants.Frame l d n used) = 0
+ackRefusal (ack.the-variants.Frame l d n used tail) = 0
 ackRefusal ack.the-variants.Ends = 2
 ackRefusal ack.the-variants.OtherType = 3
 ackRefusal ack.the-variants.BelowZero = 14

@@ -3,13 +3,27 @@ ghost use mathlib.Core.Path.{_≡_};
 ghost use Prim.Native.Nat.{_+_, _*_, _≤_};
 ghost use lib.ListN.{length};
 ghost use Rattle.wire.specs.Bytes.{splice};
-ghost use Rattle.frames.specs.Ack.{rangesFrom, readRanges, readAck};
+ghost use Rattle.frames.specs.Types.{isAck};
+ghost use Rattle.frames.specs.Ack.{rangesFrom, readTail, readRest, readRanges, readAck};
 use crate::Ack;
+use crate::Ending;
+use crate::Tail;
 use crate::Walk;
 use wire::Number;
 
-// Its type.
+// Its type, and its type with counts.
 const ACK: u64 = 0x02;
+
+const ACK_COUNTS: u64 = 0x03;
+
+fn is_ack(kind: u64) -> bool
+    ensures { λ r. ⌜ r ≡ isAck kind ⌝ }
+{
+    if kind == ACK {
+        return true;
+    }
+    kind == ACK_COUNTS
+}
 
 // Walks over a first range whose largest is given and count ranges after it, and writes nothing.
 // A turn takes two bytes or more, so the bytes and not the count bound its time.
@@ -98,15 +112,75 @@ fn fill_ranges(ranges: &mut [u64], s: &[u8], at: usize, first: u64, count: u64)
     }
 }
 
-// Reads the ranges of an ACK frame: the whole frame is checked (2, 14) before the room is judged (9).
-fn read_ranges(s: &[u8], at: usize, largest: u64, delay: u64, count: u64, ranges: &mut [u64]) -> Ack
-    ensures { λ r. ⌜ (r ≡ readRanges (now (s .entry)) at largest delay count (now (ranges .entry)) .answer) × (now (ranges .exit) ≡ readRanges (now (s .entry)) at largest delay count (now (ranges .entry)) .slice) ⌝ }
+// Reads what comes after the ranges: the three counts, or nothing.
+fn read_tail(s: &[u8], at: usize, counted: bool) -> Ending
+    ensures { λ r. ⌜ r ≡ readTail counted (now (s .entry)) at ⌝ }
+{
+    if !counted {
+        return Ending::Whole {
+            tail: Tail::Nothing,
+            used: at,
+        };
+    }
+    let Number::Value {
+        value: ect0,
+        next: at1,
+        ..
+    } = wire::read_number(s, at)
+    else {
+        return Ending::Ends;
+    };
+    let Number::Value {
+        value: ect1,
+        next: at2,
+        ..
+    } = wire::read_number(s, at1)
+    else {
+        return Ending::Ends;
+    };
+    let Number::Value {
+        value: ce,
+        next: used,
+        ..
+    } = wire::read_number(s, at2)
+    else {
+        return Ending::Ends;
+    };
+    Ending::Whole {
+        tail: Tail::Counts { ect0, ect1, ce },
+        used,
+    }
+}
+
+// Reads the ranges and what comes after them, and writes nothing.
+fn check_rest(s: &[u8], at: usize, largest: u64, count: u64, counted: bool) -> Ending
+    ensures { λ r. ⌜ r ≡ readRest counted (now (s .entry)) (rangesFrom count (now (s .entry)) at largest .walk) ⌝ }
 {
     let walk = check_ranges(s, at, largest, count);
     match walk {
-        Walk::Ends => Ack::Ends,
-        Walk::BelowZero => Ack::BelowZero,
-        Walk::Whole { used } => {
+        Walk::Ends => Ending::Ends,
+        Walk::BelowZero => Ending::BelowZero,
+        Walk::Whole { used } => read_tail(s, used, counted),
+    }
+}
+
+// Reads the ranges of an ACK frame: the whole frame is checked (2, 14) before the room is judged (9).
+fn read_ranges(
+    s: &[u8],
+    at: usize,
+    largest: u64,
+    delay: u64,
+    count: u64,
+    counted: bool,
+    ranges: &mut [u64],
+) -> Ack
+    ensures { λ r. ⌜ (r ≡ readRanges (now (s .entry)) at largest delay count counted (now (ranges .entry)) .answer) × (now (ranges .exit) ≡ readRanges (now (s .entry)) at largest delay count counted (now (ranges .entry)) .slice) ⌝ }
+{
+    let ending = check_rest(s, at, largest, count, counted);
+    match ending {
+        Ending::Ends => Ack::Ends,
+        Ending::BelowZero => Ack::BelowZero,
+        Ending::Whole { tail, used } => {
             // The room is halved, since a count near 2^62 is not to be doubled.
             let pairs = (ranges.len() / 2) as u64;
             if pairs <= count {
@@ -118,6 +192,7 @@ fn read_ranges(s: &[u8], at: usize, largest: u64, delay: u64, count: u64, ranges
                 delay,
                 ranges: count + 1,
                 used,
+                tail,
             }
         }
     }
@@ -135,7 +210,7 @@ pub fn read_ack(s: &[u8], ranges: &mut [u64]) -> Ack
     else {
         return Ack::Ends;
     };
-    if kind != ACK {
+    if !is_ack(kind) {
         return Ack::OtherType;
     }
     if !shortest {
@@ -165,5 +240,5 @@ pub fn read_ack(s: &[u8], ranges: &mut [u64]) -> Ack
     else {
         return Ack::Ends;
     };
-    read_ranges(s, at3, largest, delay, count, ranges)
+    read_ranges(s, at3, largest, delay, count, kind == ACK_COUNTS, ranges)
 }

@@ -1,5 +1,5 @@
 // The three frames: ACK_FREQUENCY and IMMEDIATE_ACK, read and written, and ACK, read.
-// Carries "Three frames" of document 01 (004; RFC 9000 section 19.3).
+// Carries "Three frames" of document 01 (004; RFC 9000 section 19.3), and ACK with counts (02, No. 2).
 // Every public function takes any bytes and any numbers, and refuses by the paper's table.
 ghost use mathlib.Core.Path.{_≡_};
 ghost use Rattle.frames.specs.Refusals.{frequencyRefusal, immediateRefusal, ackRefusal};
@@ -34,13 +34,20 @@ pub enum Immediate {
     OtherType,
 }
 
-// What reading ACK finds: how many ranges were written beside its numbers and the length used, or the refusal.
+// What an ACK frame has after its ranges: nothing, for type 02, or for type 03 the three ECN counts (RFC 9000 19.3.2).
+pub enum Tail {
+    Nothing,
+    Counts { ect0: u64, ect1: u64, ce: u64 },
+}
+
+// What reading ACK finds: how many ranges were written beside its numbers, the length used and what came after the ranges, or the refusal.
 pub enum Ack {
     Frame {
         largest: u64,
         delay: u64,
         ranges: u64,
         used: usize,
+        tail: Tail,
     },
     Ends,
     OtherType,
@@ -51,6 +58,13 @@ pub enum Ack {
 // How a walk over a frame's ranges ends: at the place after them, or by their first fault.
 enum Walk {
     Whole { used: usize },
+    Ends,
+    BelowZero,
+}
+
+// How a frame ends: at the place after its tail, or by the first fault of its ranges and its counts.
+enum Ending {
+    Whole { tail: Tail, used: usize },
     Ends,
     BelowZero,
 }
@@ -98,6 +112,7 @@ impl Ack {
                 delay: _,
                 ranges: _,
                 used: _,
+                tail: _,
             } => 0,
             Ack::Ends => 2,
             Ack::OtherType => 3,

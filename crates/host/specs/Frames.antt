@@ -6,6 +6,9 @@ use Rattle.frames.specs.declared.Immediate as immediate
 use Rattle.frames.specs.declared.Ack as ack
 use Rattle.host.specs.declared.FrequencyOut.{FrequencyOut}
 use Rattle.host.specs.declared.ImmediateOut.{ImmediateOut}
+use Rattle.frames.specs.declared.Tail.{Tail}
+use Rattle.frames.specs.declared.Tail.the-variants.{Nothing, Counts}
+use Rattle.host.specs.declared.CountsOut.{CountsOut}
 use Rattle.host.specs.declared.AckOut.{AckOut}
 
 -- a refusal of ACK_FREQUENCY has no values
@@ -27,12 +30,18 @@ immediateOut immediate.the-variants.OtherType = record { result = immediateRefus
 
 -- a refusal of ACK has no values
 abbrev pub noAck : ℕ → AckOut
-noAck result = record { result = result; largest = 0; delay = 0; ranges = 0; used = 0 }
+noAck result = record { result = result; largest = 0; delay = 0; ranges = 0; used = 0; counts = 0; ect0 = 0; ect1 = 0; ce = 0 }
 
--- "largest, delay", the number of ranges, and "the length used"
+-- "the ACK reader takes 03 too and gives its counts" (02, No. 2)
+unfoldable pub countsOut : Tail → CountsOut
+countsOut Nothing = record { counts = 0; ect0 = 0; ect1 = 0; ce = 0 }
+countsOut (Counts ect0 ect1 ce) = record { counts = 1; ect0 = ect0; ect1 = ect1; ce = ce }
+
+-- "largest, delay", the number of ranges, "the length used" and the counts
 unfoldable pub ackOut : ack.Ack → AckOut
-ackOut (ack.the-variants.Frame l d n used) =
-    record { result = ackRefusal (ack.the-variants.Frame l d n used); largest = l; delay = d; ranges = n; used = used }
+ackOut (ack.the-variants.Frame l d n used tail) =
+    let c = countsOut tail in
+    record { result = ackRefusal (ack.the-variants.Frame l d n used tail); largest = l; delay = d; ranges = n; used = used; counts = c .counts; ect0 = c .ect0; ect1 = c .ect1; ce = c .ce }
 ackOut ack.the-variants.Ends = noAck (ackRefusal ack.the-variants.Ends)
 ackOut ack.the-variants.OtherType = noAck (ackRefusal ack.the-variants.OtherType)
 ackOut ack.the-variants.BelowZero = noAck (ackRefusal ack.the-variants.BelowZero)

@@ -4,9 +4,11 @@ ghost use Rattle.receiver.specs.Packet.{packetCall};
 ghost use Rattle.receiver.specs.Calls.{openCall, timerCall, immediateCall, thresholdCall};
 ghost use Rattle.receiver.specs.Confirm.{confirmCall};
 ghost use Rattle.receiver.specs.Write.{writeAnswer, writeBytes};
-ghost use Rattle.host.specs.Calls.{millis, micros, verdictOut, heardOut};
+ghost use Rattle.host.specs.Calls.{millis, micros, markOf, kindOf, verdictOut, heardOut};
 use receiver::Answer;
 use receiver::Heard;
+use receiver::Kind;
+use receiver::Mark;
 use receiver::Millis;
 use receiver::Receiver;
 use receiver::Verdict;
@@ -25,6 +27,29 @@ fn verdict_out(verdict: Verdict) -> u64
         Verdict::Stale => STALE,
         Verdict::Refused(n) => n,
     }
+}
+
+// The mark that the ECN field of the IP header tells (RFC 3168). Only the two low bits count, so that a host may hand over the whole traffic class byte.
+fn mark_of(ecn: u64) -> Mark
+    ensures { λ r. ⌜ r ≡ markOf ecn ⌝ }
+{
+    let field = ecn % 4;
+    match field {
+        0 => Mark::None,
+        1 => Mark::Ect1,
+        2 => Mark::Ect0,
+        _ => Mark::Ce,
+    }
+}
+
+// The type of an ACK: 03 with counts, 02 without.
+fn kind_of(counts: bool) -> Kind
+    ensures { λ r. ⌜ r ≡ kindOf counts ⌝ }
+{
+    if counts {
+        return Kind::Counts;
+    }
+    Kind::Plain
 }
 
 // Opens a receiver: T, R, the own maximum delay in milliseconds and the own minimum delay in microseconds.
@@ -47,11 +72,12 @@ pub extern "C" fn lumbixet_packet(
     number: u64,
     time: u64,
     eliciting: bool,
-    marked: bool,
+    ecn: u64,
 ) -> Answer
-    ensures { λ r. ⌜ r ≡ packetCall receiver number (micros time) eliciting marked ⌝ }
+    ensures { λ r. ⌜ r ≡ packetCall receiver number (micros time) eliciting (markOf ecn) ⌝ }
 {
-    receiver.packet(number, Micros(time), eliciting, marked)
+    let mark = mark_of(ecn);
+    receiver.packet(number, Micros(time), eliciting, mark)
 }
 
 // The timer is looked at.
@@ -96,10 +122,16 @@ pub extern "C" fn lumbixet_confirm(receiver: Receiver, largest: u64) -> Answer
     receiver.confirm(largest)
 }
 
-// Writes an ACK frame at the start of the buffer.
+// Writes an ACK frame at the start of the buffer: of type 03, with the counts, or of type 02.
 #[no_mangle]
-pub extern "C" fn lumbixet_write(receiver: Receiver, time: u64, buffer: &mut [u8]) -> Wrote
-    ensures { λ r. ⌜ (r ≡ writeAnswer receiver (micros time) (now (buffer .entry))) × (now (buffer .exit) ≡ writeBytes receiver (micros time) (now (buffer .entry))) ⌝ }
+pub extern "C" fn lumbixet_write(
+    receiver: Receiver,
+    time: u64,
+    counts: bool,
+    buffer: &mut [u8],
+) -> Wrote
+    ensures { λ r. ⌜ (r ≡ writeAnswer receiver (micros time) (kindOf counts) (now (buffer .entry))) × (now (buffer .exit) ≡ writeBytes receiver (micros time) (kindOf counts) (now (buffer .entry))) ⌝ }
 {
-    receiver.write(Micros(time), buffer)
+    let kind = kind_of(counts);
+    receiver.write(Micros(time), kind, buffer)
 }

@@ -5,8 +5,9 @@ ghost use Rattle.frames.specs.Frequency.{readFrequency, frequency};
 ghost use Rattle.frames.specs.Immediate.{readImmediate, immediate};
 ghost use Rattle.frames.specs.Ack.{readAck};
 ghost use Rattle.host.specs.Numbers.{putOut};
-ghost use Rattle.host.specs.Frames.{noFrequency, frequencyOut, immediateOut, noAck, ackOut};
+ghost use Rattle.host.specs.Frames.{noFrequency, frequencyOut, immediateOut, noAck, countsOut, ackOut};
 use crate::AckOut;
+use crate::CountsOut;
 use crate::FrequencyOut;
 use crate::ImmediateOut;
 use crate::PutOut;
@@ -14,6 +15,7 @@ use crate::numbers::put_out;
 use frames::Ack;
 use frames::Frequency;
 use frames::Immediate;
+use frames::Tail;
 
 // A refused frame has no values.
 fn no_frequency(result: u64) -> FrequencyOut
@@ -79,6 +81,30 @@ fn no_ack(result: u64) -> AckOut
         delay: 0,
         ranges: 0,
         used: 0,
+        counts: 0,
+        ect0: 0,
+        ect1: 0,
+        ce: 0,
+    }
+}
+
+// The three counts of a frame of type 03, or none.
+fn counts_out(tail: Tail) -> CountsOut
+    ensures { λ r. ⌜ r ≡ countsOut tail ⌝ }
+{
+    match tail {
+        Tail::Nothing => CountsOut {
+            counts: 0,
+            ect0: 0,
+            ect1: 0,
+            ce: 0,
+        },
+        Tail::Counts { ect0, ect1, ce } => CountsOut {
+            counts: 1,
+            ect0,
+            ect1,
+            ce,
+        },
     }
 }
 
@@ -93,13 +119,21 @@ fn ack_out(answer: Ack) -> AckOut
             delay,
             ranges,
             used,
-        } => AckOut {
-            result,
-            largest,
-            delay,
-            ranges,
-            used: used as u64,
-        },
+            tail,
+        } => {
+            let said = counts_out(tail);
+            AckOut {
+                result,
+                largest,
+                delay,
+                ranges,
+                used: used as u64,
+                counts: said.counts,
+                ect0: said.ect0,
+                ect1: said.ect1,
+                ce: said.ce,
+            }
+        }
         Ack::Ends => no_ack(result),
         Ack::OtherType => no_ack(result),
         Ack::BelowZero => no_ack(result),

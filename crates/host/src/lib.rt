@@ -41,7 +41,7 @@ pub struct ImmediateOut {
     pub used: u64,
 }
 
-// An ACK frame's numbers, how many ranges were written to the lent slice, and the frame's length.
+// An ACK frame's numbers, how many ranges were written to the lent slice, the frame's length, and its counts where it is of type 03.
 #[repr(C)]
 pub struct AckOut {
     pub result: u64,
@@ -49,6 +49,19 @@ pub struct AckOut {
     pub delay: u64,
     pub ranges: u64,
     pub used: u64,
+    // This is 1 where the frame was of type 03, and else 0, and so are the three counts.
+    pub counts: u64,
+    pub ect0: u64,
+    pub ect1: u64,
+    pub ce: u64,
+}
+
+// The counts of an ACK frame, where it has them.
+struct CountsOut {
+    counts: u64,
+    ect0: u64,
+    ect1: u64,
+    ce: u64,
 }
 
 // Where the entries of a report stand in the caller's own bytes, and how many bytes they take.

@@ -23,6 +23,7 @@ use Rattle.receiver.specs.Write.{writeRefusal, afterWrite, answered}
 use Rattle.receiver.specs.Exactly.{Row, row, first, packetRows, timerRows, immediateRows, thresholdRows, confirmRows, verdictOf}
 use Rattle.receiver.specs.Emits.{writeRows}
 use Rattle.receiver.proofs.Exactly.{unchanged}
+use Rattle.receiver.specs.declared.Mark.{Mark}
 use Rattle.promises.specs.Sequence.{Call, packet, timer, immediate, threshold, write, confirm, accepted, replyOf, replyTo, step}
 use Rattle.promises.proofs.Truth.{both-left, both-right, not-false, last-false}
 use Rattle.promises.proofs.Rows.{by-rows}
@@ -30,11 +31,11 @@ use Rattle.promises.proofs.Rows.{by-rows}
 -- ---- what an accepted call leaves
 
 abbrev pub made : Receiver → Call → Receiver
-made r (packet n time eliciting marked) = packetAfter r n time eliciting marked
+made r (packet n time eliciting mark) = packetAfter r n time eliciting mark
 made r (timer time) = timerAfter r time
 made r immediate = immediateAfter r
 made r (threshold sequence t delay q) = agreedAfter r sequence t delay q
-made r (write time room) = afterWrite r
+made r (write time kind room) = afterWrite r
 made r (confirm k) = confirmAfter r k
 
 handed-new : (k : ℕ) (old new : Receiver) → replyOf (handedBack k old new .result) ≡ accepted → handedBack k old new .next ≡ new
@@ -57,21 +58,21 @@ answered-old (suc k) r f = refl
 -- a call that is not accepted hands the record back
 pub step-kept : (r : Receiver) (c : Call) → (step r c .reply ≡ accepted → ⊥) → step r c .next ≡ r
 unfolding step
-step-kept r (packet n time eliciting marked) f = unchanged .packet r n time eliciting marked (λ z. f (ap replyOf z))
+step-kept r (packet n time eliciting mark) f = unchanged .packet r n time eliciting mark (λ z. f (ap replyOf z))
 step-kept r (timer time) f = unchanged .timer r time (λ z. f (ap replyOf z))
 step-kept r immediate f = unchanged .immediate r (λ z. f (ap replyOf z))
 step-kept r (threshold s t d q) f = unchanged .threshold r s t d q (λ z. f (ap replyTo z))
-step-kept r (write time room) f = answered-old (writeRefusal r time room) r f
+step-kept r (write time kind room) f = answered-old (writeRefusal r time kind room) r f
 step-kept r (confirm k) f = unchanged .confirm r k (λ z. f (ap replyOf z))
 
 -- an accepted one hands back what it makes
 pub step-made : (r : Receiver) (c : Call) → step r c .reply ≡ accepted → step r c .next ≡ made r c
 unfolding step packetCall timerCall immediateCall thresholdCall confirmCall
-step-made r (packet n time eliciting marked) e = handed-new (packetRefusal r n time) r (packetAfter r n time eliciting marked) e
+step-made r (packet n time eliciting mark) e = handed-new (packetRefusal r n time) r (packetAfter r n time eliciting mark) e
 step-made r (timer time) e = handed-new (timerRefusal r time) r (timerAfter r time) e
 step-made r immediate e = handed-new (immediateRefusal r) r (immediateAfter r) e
 step-made r (threshold s t d q) e = heard-new (thresholdVerdict r s t d q) r (agreedAfter r s t d q) e
-step-made r (write time room) e = answered-new (writeRefusal r time room) r e
+step-made r (write time kind room) e = answered-new (writeRefusal r time kind room) r e
 step-made r (confirm k) e = handed-new (confirmRefusal r k) r (confirmAfter r k) e
 
 -- ---- what record and arguments of an accepted call meet, besides consistency
@@ -91,11 +92,11 @@ pub record FrameMeets (r : Receiver) (s t : ℕ) (d : Micros) (q : ℕ) : Type 0
   pub newer : r .agreed .sequence ≤ s
 
 abbrev pub Meets : Receiver → Call → Type 0
-Meets r (packet n time eliciting marked) = PacketMeets (r .seen) n time
+Meets r (packet n time eliciting mark) = PacketMeets (r .seen) n time
 Meets r (timer time) = time .0 ≤ limit
 Meets r immediate = 0 < r .seen .end
 Meets r (threshold sequence t delay q) = FrameMeets r sequence t delay q
-Meets r (write time room) = 0 < r .seen .end
+Meets r (write time kind room) = 0 < r .seen .end
 Meets r (confirm k) = k < r .acknowledged
 
 pub reply-zero : (k : ℕ) → replyOf k ≡ accepted → k ≡ 0
@@ -127,6 +128,11 @@ packet-meets r n time e =
       fresh = λ l. last-false (leb (floor (r .seen)) n) (ltb n (r .seen .end)) (received (r .seen) n) (le-leb (floor (r .seen)) n low) (lt-ltb n (r .seen .end) l) (c .0);
     }
 
+-- an accepted packet came on a consistent record
+pub packet-consistent : (r : Receiver) (n : ℕ) (time : Micros) (eliciting : Bool) (mark : Mark) → step r (packet n time eliciting mark) .reply ≡ accepted → consistent r ≡ true
+packet-consistent r n time eliciting mark e =
+    not-false (consistent r) (rest 0 (not (consistent r)) _ (reply-zero (first (packetRows r n time)) (sym (by-rows r (packet n time eliciting mark)) ∙ e)) .0)
+
 timer-meets : (r : Receiver) (time : Micros) → first (timerRows r time) ≡ 0 → time .0 ≤ limit
 timer-meets r time e =
     let a = rest 0 (not (consistent r)) _ e in
@@ -154,13 +160,13 @@ frame-meets r s t d q e =
     }
 
 pub step-meets : (r : Receiver) (c : Call) → step r c .reply ≡ accepted → Meets r c
-step-meets r (packet n time eliciting marked) e = packet-meets r n time (reply-zero _ (sym (by-rows r (packet n time eliciting marked)) ∙ e))
+step-meets r (packet n time eliciting mark) e = packet-meets r n time (reply-zero _ (sym (by-rows r (packet n time eliciting mark)) ∙ e))
 step-meets r (timer time) e = timer-meets r time (reply-zero _ (sym (by-rows r (timer time)) ∙ e))
 step-meets r immediate e =
     let a = rest 0 (not (consistent r)) _ (reply-zero (first (immediateRows r)) (sym (by-rows r immediate) ∙ e)) in some-received (r .seen .end) [] (a .1)
 step-meets r (threshold s t d q) e = frame-meets r s t d q (verdict-zero _ _ (sym (by-rows r (threshold s t d q)) ∙ e))
-step-meets r (write time room) e =
-    let a = rest 0 (not (consistent r)) _ (reply-zero (first (writeRows r time room)) (sym (by-rows r (write time room)) ∙ e)) in
+step-meets r (write time kind room) e =
+    let a = rest 0 (not (consistent r)) _ (reply-zero (first (writeRows r time kind room)) (sym (by-rows r (write time kind room)) ∙ e)) in
     let b = rest 4 (not (small (time .0))) _ (a .1) in
     some-received (r .seen .end) _ (b .1)
 step-meets r (confirm k) e =

@@ -13,6 +13,7 @@ use Rattle.receiver.specs.declared.Receiver.{Receiver}
 use Rattle.seen.specs.Received.{floor, floorOf, seenConsistent, reported}
 use Rattle.receiver.specs.Record.{consistent}
 use Rattle.seen.specs.Ack.{ranges, numberOfRanges, ackDelay, frame, rangesKept}
+use Rattle.receiver.specs.Totals.{tailOf}
 use Rattle.receiver.specs.Write.{writeAnswer}
 use Rattle.seen.specs.Emits.{Received, MaximalRuns as WindowRuns}
 use Rattle.seen.proofs.Maximal.{ranges-are-runs}
@@ -27,7 +28,7 @@ use Rattle.promises.proofs.Packets.{none-above}
 use Rattle.promises.proofs.Writing.{write-is-step}
 use Rattle.promises.proofs.Acceptance.{reply-zero, step-meets}
 use Rattle.promises.proofs.Kept.{along}
-use Rattle.promises.proofs.Along.{seen-is, end-is, floor-is}
+use Rattle.promises.proofs.Along.{seen-is, end-is, floor-is, totals-are}
 use Rattle.promises.proofs.Told.{window-is}
 
 module _ (t q : ℕ) (m : Millis) (u : Micros) (cs : Calls) where
@@ -71,17 +72,17 @@ module _ (t q : ℕ) (m : Millis) (u : Micros) (cs : Calls) where
 
 pub acknowledged : Acknowledged
 unfolding frame
-acknowledged t q m u cs time xs e =
+acknowledged t q m u cs time kind xs e =
     let r : Receiver = after (opening t q m u) cs in
-    let z : writeAnswer r time xs .result ≡ 0 = reply-zero _ (sym (ap (λ (x : Outcome). x .reply) (write-is-step r time xs)) ∙ e) in
-    let w = write-read-back r time xs z in
+    let z : writeAnswer r time kind xs .result ≡ 0 = reply-zero _ (sym (ap (λ (x : Outcome). x .reply) (write-is-step r time kind xs)) ∙ e) in
+    let w = write-read-back r time kind xs z in
     record {
       count = numberOfRanges (reported (r .seen));
       runs = ranges (reported (r .seen));
-      maximal = runs-are t q m u cs (step-meets r (write time (length xs)) e);
-      kept = rangesKept (reported (r .seen)) (ackDelay (r .seen) time) (length xs);
+      maximal = runs-are t q m u cs (step-meets r (write time kind (length xs)) e);
+      kept = rangesKept (reported (r .seen)) (tailOf kind (r .totals)) (ackDelay (r .seen) time) (length xs);
       first = w .first;
-      fits = rw (← seen-is t q m u cs) (w .fits);
-      most = λ k l h. rw (← seen-is t q m u cs) (leb-false _ (length xs) (kept-says (reported (r .seen)) (ackDelay (r .seen) time) (length xs) .above k l h));
-      back = λ zs l. rw (← seen-is t q m u cs, ← end-is t q m u cs) (w .back zs l);
+      fits = rw (← seen-is t q m u cs, ← totals-are t q m u cs) (w .fits);
+      most = λ k l h. rw (← seen-is t q m u cs, ← totals-are t q m u cs) (leb-false _ (length xs) (kept-says (reported (r .seen)) (tailOf kind (r .totals)) (ackDelay (r .seen) time) (length xs) .above k l h));
+      back = λ zs l. rw (← seen-is t q m u cs, ← end-is t q m u cs, ← totals-are t q m u cs) (w .back zs l);
     }

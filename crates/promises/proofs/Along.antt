@@ -21,27 +21,23 @@ use Rattle.seen.specs.Received.{confirmedAfter}
 use Rattle.receiver.specs.Packet.{nothingAgreed, pendingAfter, firstCause, congestion, causeAfter, packetAfter, standing, handedBack}
 use Rattle.receiver.specs.Calls.{opened, usual, openRefusal, openCall, timerDue, agreedAfter}
 use Rattle.receiver.specs.Write.{afterWrite}
+use Rattle.receiver.specs.declared.Mark.{Mark}
+use Rattle.receiver.specs.declared.Kind.{Kind}
+use Rattle.receiver.specs.declared.Totals.{Totals}
+use Rattle.receiver.specs.Totals.{isCe, totalsAfter}
 use Rattle.promises.specs.Sequence.{Call, packet, timer, immediate, threshold, write, confirm, Calls, none, _then_, Reply, accepted, stale, refused, after, replied, opening}
 use Rattle.promises.specs.Accepted.{Packet, Frame, packetOf, frameOf, joined, acceptedOf, packets, since, before, frames}
-use Rattle.promises.specs.Told.{largest, elicitingOf, arrivalOf, firstArrival, lastMark, noFrame, largestSequence, valuesOf, inForce, confirmedOf, seenOf, leftArrival, pendingOf, tell}
+use Rattle.promises.specs.Told.{largest, elicitingOf, arrivalOf, firstArrival, lastMark, noFrame, largestSequence, valuesOf, inForce, confirmedOf, seenOf, leftArrival, pendingOf, howOften, totalsOf, tell}
 use Rattle.promises.specs.Due.{known, ofPacket, due}
 use Rattle.promises.proofs.Acceptance.{made, Meets, PacketMeets, step-kept, step-made, step-meets}
+use Rattle.promises.proofs.Totals.{capped-more, totals-told}
 use Rattle.promises.proofs.Marks.{told-none, seen, seen-told}
 
 -- ---- N, U and the first arrival
 
 -- N with one packet more
 count-more : (k : ℕ) → min (min k (2 ^ 62) + 1) (2 ^ 62) ≡ min (suc k) (2 ^ 62)
-count-more k =
-    split (2 ^ 62) k
-    (λ h.
-    let a : 2 ^ 62 ≤ 2 ^ 62 + 1 = omega arith in
-    let b : 2 ^ 62 ≤ suc k = omega arith in
-    ap (λ (x : ℕ). min (x + 1) (2 ^ 62)) (min-eq-right h) ∙ min-eq-right a ∙ sym (min-eq-right b))
-    (λ h.
-    let a : k ≤ 2 ^ 62 = omega arith in
-    let b : k + 1 ≡ suc k = omega arith in
-    ap (λ (x : ℕ). min (x + 1) (2 ^ 62)) (min-eq-left a) ∙ ap (λ (x : ℕ). min x (2 ^ 62)) b)
+count-more k = let b : k + 1 ≡ suc k = omega arith in capped-more (2 ^ 62) k ∙ ap (λ (x : ℕ). min x (2 ^ 62)) b
 
 -- the first arrival with one packet more: the packet's time only where it is the first
 first-more : (other time : Micros) (p : Packet) (ps : List Packet) → p .time ≡ time
@@ -52,13 +48,13 @@ first-more other time p (x ∷ ps) e =
     let l : 1 ≤ min (length (x ∷ ps)) (2 ^ 62) = le-min (omega arith) (omega arith) in
     ap (λ (b : Bool). pick b time (firstArrival (x .time) ps)) (ne-eqb (min (length (x ∷ ps)) (2 ^ 62)) 0 (λ z. omega arith))
 
-pending-told : (cs : Calls) (n : ℕ) (time : Micros) (marked : Bool)
-    → pendingAfter (pendingOf cs) n time ≡ pendingOf (cs then packet n time true marked)
+pending-told : (cs : Calls) (n : ℕ) (time : Micros) (mark : Mark)
+    → pendingAfter (pendingOf cs) n time ≡ pendingOf (cs then packet n time true mark)
 unfolding pendingAfter pendingOf since elicitingOf leftArrival largest
-pending-told cs n time marked =
+pending-told cs n time mark =
     let ps : List Packet = elicitingOf (since cs) in
     ap₂ (λ (k : ℕ) (first : Micros). record { count = k; end = max (largest ps) (n + 1); first = first }) (count-more (length ps))
-    (first-more (leftArrival cs) time (packetOf n time true marked) ps refl)
+    (first-more (leftArrival cs) time (packetOf n time true mark) ps refl)
 
 -- ---- the values in force
 
@@ -95,35 +91,40 @@ no-frame a (f ∷ fs) e =
 -- ---- each call on the record that is told
 
 module _ (o : Receiver) (cs : Calls) (cause : ℕ) where
-  plain-told : (n : ℕ) (time : Micros) (marked : Bool) → PacketMeets (seenOf cs) n time
-      → packetAfter (tell o cs cause) n time false marked ≡ tell o (cs then packet n time false marked) cause
+  plain-told : (n : ℕ) (time : Micros) (mark : Mark) → PacketMeets (seenOf cs) n time
+      → packetAfter (tell o cs cause) n time false mark ≡ tell o (cs then packet n time false mark) cause
   unfolding packetAfter seenOf confirmedOf packets since before frames elicitingOf lastMark leftArrival pendingOf
-  plain-told n time marked m =
-      ap (λ (s : Seen). record {
+  plain-told n time mark m =
+      ap₂ (λ (s : Seen) (t : Totals). record {
         seen = s;
         pending = pendingOf cs;
         agreed = inForce (o .agreed) (frames cs);
         limits = o .limits;
         acknowledged = largest (before cs);
         highest = largest (elicitingOf (packets cs));
-        ce = pick marked 1 0;
+        ce = pick (isCe mark) 1 0;
         cause = cause;
-      }) (seen-told (confirmedOf cs) (packetOf n time false marked) (packets cs) (m .window))
+        totals = t;
+      }) (seen-told (confirmedOf cs) (packetOf n time false mark) (packets cs) (m .window)) (totals-told (packetOf n time false mark) (packets cs))
 
-  eliciting-told : (n : ℕ) (time : Micros) (marked : Bool) → PacketMeets (seenOf cs) n time
-      → packetAfter (tell o cs cause) n time true marked ≡ tell o (cs then packet n time true marked) (standing cause (ofPacket o cs n time marked))
+  eliciting-told : (n : ℕ) (time : Micros) (mark : Mark) → PacketMeets (seenOf cs) n time
+      → packetAfter (tell o cs cause) n time true mark ≡ tell o (cs then packet n time true mark) (standing cause (ofPacket o cs n time mark))
   unfolding packetAfter seenOf confirmedOf packets before frames elicitingOf lastMark largest causeAfter firstCause congestion
-  eliciting-told n time marked m =
-      ap₂ (λ (s : Seen) (p : Pending). record {
+  eliciting-told n time mark m =
+      let with : Seen → Pending → Totals → Receiver = λ s p t. record {
         seen = s;
         pending = p;
         agreed = inForce (o .agreed) (frames cs);
         limits = o .limits;
         acknowledged = largest (before cs);
         highest = max (largest (elicitingOf (packets cs))) (n + 1);
-        ce = pick marked 1 0;
-        cause = standing cause (firstCause (known o cs) n marked s p);
-      }) (seen-told (confirmedOf cs) (packetOf n time true marked) (packets cs) (m .window)) (pending-told cs n time marked)
+        ce = pick (isCe mark) 1 0;
+        cause = standing cause (firstCause (known o cs) n (isCe mark) s p);
+        totals = t;
+      } in
+      let now : Calls = cs then packet n time true mark in
+      ap₂ (λ (s : Seen) (p : Pending). with s p (totalsAfter (totalsOf (packets cs)) mark)) (seen-told (confirmedOf cs) (packetOf n time true mark) (packets cs) (m .window)) (pending-told cs n time mark)
+      ∙ ap (with (seenOf now) (pendingOf now)) (totals-told (packetOf n time true mark) (packets cs))
 
 -- the record that is told with its cause
 abbrev whole : Receiver → Calls → Receiver
@@ -137,9 +138,9 @@ immediate-told : (o : Receiver) (cs : Calls) → made (whole o cs) immediate ≡
 unfolding seenOf confirmedOf packets since before frames leftArrival pendingOf due
 immediate-told o cs = refl
 
-write-told : (o : Receiver) (cs : Calls) (time : Micros) (room : ℕ) → made (whole o cs) (write time room) ≡ whole o (cs then write time room)
+write-told : (o : Receiver) (cs : Calls) (time : Micros) (kind : Kind) (room : ℕ) → made (whole o cs) (write time kind room) ≡ whole o (cs then write time kind room)
 unfolding seenOf confirmedOf packets since before frames leftArrival pendingOf due afterWrite elicitingOf largest firstArrival
-write-told o cs time room = refl
+write-told o cs time kind room = refl
 
 confirm-told : (o : Receiver) (cs : Calls) (k : ℕ) → made (whole o cs) (confirm k) ≡ whole o (cs then confirm k)
 unfolding seenOf confirmedOf packets since before frames leftArrival pendingOf due confirmedAfter
@@ -158,20 +159,21 @@ threshold-told o cs s t d q h =
       highest = largest (elicitingOf (packets cs));
       ce = pick (lastMark (packets cs)) 1 0;
       cause = due o cs;
+      totals = totalsOf (packets cs);
     }) (sym (above-others (o .agreed) (frameOf s t d q) (frames cs) h))
 
-packet-told : (o : Receiver) (cs : Calls) (n : ℕ) (time : Micros) (eliciting marked : Bool) → PacketMeets (seenOf cs) n time
-    → made (whole o cs) (packet n time eliciting marked) ≡ whole o (cs then packet n time eliciting marked)
+packet-told : (o : Receiver) (cs : Calls) (n : ℕ) (time : Micros) (eliciting : Bool) (mark : Mark) → PacketMeets (seenOf cs) n time
+    → made (whole o cs) (packet n time eliciting mark) ≡ whole o (cs then packet n time eliciting mark)
 unfolding due
-packet-told o cs n time true marked m = eliciting-told o cs (due o cs) n time marked m
-packet-told o cs n time false marked m = plain-told o cs (due o cs) n time marked m
+packet-told o cs n time true mark m = eliciting-told o cs (due o cs) n time mark m
+packet-told o cs n time false mark m = plain-told o cs (due o cs) n time mark m
 
 made-told : (o : Receiver) → o .agreed .sequence ≡ 0 → (cs : Calls) (c : Call) → Meets (whole o cs) c → made (whole o cs) c ≡ whole o (cs then c)
-made-told o z cs (packet n time eliciting marked) m = packet-told o cs n time eliciting marked m
+made-told o z cs (packet n time eliciting mark) m = packet-told o cs n time eliciting mark m
 made-told o z cs (timer time) m = timer-told o cs time
 made-told o z cs immediate m = immediate-told o cs
 made-told o z cs (threshold s t d q) m = threshold-told o cs s t d q (omega (arith, sequence-told (o .agreed) (frames cs) z, m .newer))
-made-told o z cs (write time room) m = write-told o cs time room
+made-told o z cs (write time kind room) m = write-told o cs time kind room
 made-told o z cs (confirm k) m = confirm-told o cs k
 
 -- ---- along the calls
@@ -200,7 +202,7 @@ follows o s none = s .told
 follows o s (cs then c) = one-more o (s .sequence) cs (acceptedOf o cs) (follows o s cs) c (replied o cs c) refl
 
 opened-starts : (t q : ℕ) (m : Millis) (u : Micros) → Start (opened t q m u)
-unfolding opened seenOf confirmedOf packets since before frames leftArrival pendingOf due elicitingOf largest firstArrival lastMark inForce arrivalOf
+unfolding opened seenOf confirmedOf packets since before frames leftArrival pendingOf due elicitingOf largest firstArrival lastMark inForce arrivalOf howOften totalsOf
 opened-starts t q m u = record { sequence = refl; told = rw told-none }
 
 starts : (t q : ℕ) (m : Millis) (u : Micros) → Start (opening t q m u)
@@ -229,6 +231,9 @@ module _ (t q : ℕ) (m : Millis) (u : Micros) (cs : Calls) where
 
   pub cause-is : after o cs .cause ≡ due o acc
   cause-is = ap (λ (r : Receiver). r .cause) agrees
+
+  pub totals-are : after o cs .totals ≡ totalsOf (packets acc)
+  totals-are = ap (λ (r : Receiver). r .totals) agrees
 
   pub seen-is : after o cs .seen ≡ seenOf acc
   seen-is = ap (λ (r : Receiver). r .seen) agrees

@@ -9,9 +9,9 @@ use native.Mathlib.Omega.{arith}
 use native.Mathlib.Nat.{add-zero, add-suc, le-refl}
 use lib.Dec.{ltb}
 use borrow.Author.Tests.{ltb-true, ltb-false}
-use Rattle.promises.specs.Accepted.{Packet}
+use Rattle.promises.specs.Accepted.{oneIf, Packet}
 use Rattle.promises.specs.Told.{largest, among}
-use Rattle.promises.specs.Passed.{oneIf, count, passes, passed, passedOver, PassedBetween}
+use Rattle.promises.specs.Passed.{count, passes, passed, passedOver, PassedBetween}
 use Rattle.promises.proofs.Truth.{either, both-left}
 use Rattle.promises.proofs.Packets.{none-above}
 use Rattle.promises.proofs.Passed.{missing-passed}

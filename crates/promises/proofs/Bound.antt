@@ -15,12 +15,14 @@ use Rattle.seen.specs.declared.Micros.{Micros}
 use Rattle.receiver.specs.declared.Receiver.{Receiver}
 use Rattle.receiver.specs.Packet.{startsCongestion, nothingAgreed, standing, handedBack}
 use Rattle.receiver.specs.Calls.{opened, usual, openRefusal, openCall, timerDue}
+use Rattle.receiver.specs.declared.Mark.{Mark}
+use Rattle.receiver.specs.declared.Kind.{Kind}
+use Rattle.receiver.specs.Totals.{isCe}
 use Rattle.promises.specs.Sequence.{Call, packet, timer, immediate, threshold, write, confirm, Calls, none, _then_, Reply, accepted, stale, refused, after, replied, opening}
-use Rattle.promises.specs.Accepted.{Packet, packetOf, frameOf, joined, acceptedOf, packets, since, before, frames}
+use Rattle.promises.specs.Accepted.{oneIf, Packet, packetOf, frameOf, joined, acceptedOf, packets, since, before, frames}
 use Rattle.promises.specs.Told.{largest, elicitingOf, among, lastMark, noFrame, largestSequence, inForce, floorIn, pendingOf}
 use Rattle.promises.specs.Order.{orderOf}
 use Rattle.promises.specs.Due.{known, due}
-use Rattle.promises.specs.Passed.{oneIf}
 use Rattle.promises.specs.Counted.{E, T, F, C, I, D, W, smallest, howMany, isWrite, openingT}
 use Rattle.promises.specs.Bound.{isDue, isAccepted, onlyDue, WrittenAtMost}
 use Rattle.promises.proofs.Truth.{both-left, both-right}
@@ -69,20 +71,20 @@ module _ (o : Receiver) (t : ℕ) (cs : Calls) (v : Holds o t cs) where
   unfolding packets since before frames pendingOf C howMany due
   confirm-holds k = simp add-zero v
 
-  write-holds : (time : Micros) (room : ℕ) → (due o cs ≡ 0 → ⊥) → Holds o t (cs then write time room)
+  write-holds : (time : Micros) (kind : Kind) (room : ℕ) → (due o cs ≡ 0 → ⊥) → Holds o t (cs then write time kind room)
   unfolding packets since before frames pendingOf C howMany due elicitingOf
-  write-holds time room d = simp add-zero (write-step d v)
+  write-holds time kind room d = simp add-zero (write-step d v)
 
   -- a packet that is not ack-eliciting
-  plain-holds : (n : ℕ) (time : Micros) (marked : Bool) → Holds o t (cs then packet n time false marked)
+  plain-holds : (n : ℕ) (time : Micros) (mark : Mark) → Holds o t (cs then packet n time false mark)
   unfolding packets since before frames pendingOf C howMany due elicitingOf
-  plain-holds n time marked =
-      simp add-zero (grown (packetOf n time false marked) (E cs) (C cs + I cs + D cs) (pendingOf cs .count) (omega arith) (omega arith) (omega arith) v)
+  plain-holds n time mark =
+      simp add-zero (grown (packetOf n time false mark) (E cs) (C cs + I cs + D cs) (pendingOf cs .count) (omega arith) (omega arith) (omega arith) v)
 
   -- an ack-eliciting one
-  module _ (n : ℕ) (time : Micros) (marked : Bool) (fresh : among (packets cs) n ≡ false) where
+  module _ (n : ℕ) (time : Micros) (mark : Mark) (fresh : among (packets cs) n ≡ false) where
     p : Packet
-    p = packetOf n time true marked
+    p = packetOf n time true mark
 
     -- N with it
     count : ℕ
@@ -138,19 +140,19 @@ module _ (o : Receiver) (t : ℕ) (cs : Calls) (v : Holds o t cs) where
     cause-holds zero old false i floor false j false = grow 0 (x′ false) (omega arith) old
 
     -- C with this packet, by the congestion line
-    started : C (cs then packet n time true marked) ≡ C cs + oneIf (startsCongestion marked (noFrame (frames cs)) (lastMark (packets cs)))
+    started : C (cs then packet n time true mark) ≡ C cs + oneIf (startsCongestion (isCe mark) (noFrame (frames cs)) (lastMark (packets cs)))
     unfolding C
     started = refl
 
-    got-holds : o .agreed .sequence ≡ 0 → Holds o t (cs then packet n time true marked)
+    got-holds : o .agreed .sequence ≡ 0 → Holds o t (cs then packet n time true mark)
     unfolding packets since before frames pendingOf howMany due elicitingOf largest Grown x′ p count
     got-holds z =
-        subst (λ (c : ℕ). TallyAt o t (cs then packet n time true marked) (standing (due o cs) c)) (sym (due-is .numbers o cs n time marked))
+        subst (λ (c : ℕ). TallyAt o t (cs then packet n time true mark) (standing (due o cs) c)) (sym (due-is .numbers o cs n time mark))
         (rw (started, ← no-frame (o .agreed) (frames cs) z)
         (simp add-zero
-        (cause-holds (due o cs) v (ltb (inForce (o .agreed) (frames cs) .threshold) count) refl (floorIn (cs then packet n time true marked))
-        (orderOf (floorIn (cs then packet n time true marked)) (p ∷ packets cs) (inForce (o .agreed) (frames cs) .reordering) n (largest (elicitingOf (packets cs))) (largest (before cs)) (max (largest (elicitingOf (since cs))) (n + 1)))
-        refl (startsCongestion marked (nothingAgreed (inForce (o .agreed) (frames cs))) (lastMark (packets cs))))))
+        (cause-holds (due o cs) v (ltb (inForce (o .agreed) (frames cs) .threshold) count) refl (floorIn (cs then packet n time true mark))
+        (orderOf (floorIn (cs then packet n time true mark)) (p ∷ packets cs) (inForce (o .agreed) (frames cs) .reordering) n (largest (elicitingOf (packets cs))) (largest (before cs)) (max (largest (elicitingOf (since cs))) (n + 1)))
+        refl (startsCongestion (isCe mark) (nothingAgreed (inForce (o .agreed) (frames cs))) (lastMark (packets cs))))))
 
 -- ---- every sequence from an opening
 
@@ -163,14 +165,14 @@ module _ (t q : ℕ) (maximum : Millis) (minimum : Micros) where
 
   -- an accepted call; a write finds an acknowledgment due
   call-holds : (u : ℕ) (cs : Calls) → Holds o u (acc cs) → (c : Call) → replied o cs c ≡ accepted → pick (isWrite c && true) (isDue (after o cs)) true ≡ true → Holds o u (acc cs then c)
-  call-holds u cs v (packet n time true marked) e d = got-holds o u (acc cs) v n time marked (told t q maximum minimum cs .once n time true marked e) (nothing-processed t q maximum minimum)
-  call-holds u cs v (packet n time false marked) e d = plain-holds o u (acc cs) v n time marked
+  call-holds u cs v (packet n time true mark) e d = got-holds o u (acc cs) v n time mark (told t q maximum minimum cs .once n time true mark e) (nothing-processed t q maximum minimum)
+  call-holds u cs v (packet n time false mark) e d = plain-holds o u (acc cs) v n time mark
   call-holds u cs v (timer time) e d = timer-holds o u (acc cs) v time
   call-holds u cs v immediate e d = immediate-holds o u (acc cs) v
   call-holds u cs v (threshold s a b r) e d = threshold-holds o u (acc cs) v s a b r (told t q maximum minimum cs .newest s a b r e)
   call-holds u cs v (confirm k) e d = confirm-holds o u (acc cs) v k
-  call-holds u cs v (write time room) e d =
-      write-holds o u (acc cs) v time room (λ z. eqb-false (after o cs .cause) 0 (not-true (eqb (after o cs .cause) 0) d) (due-is .cause t q maximum minimum cs ∙ z))
+  call-holds u cs v (write time kind room) e d =
+      write-holds o u (acc cs) v time kind room (λ z. eqb-false (after o cs .cause) 0 (not-true (eqb (after o cs .cause) 0) d) (due-is .cause t q maximum minimum cs ∙ z))
 
   all-hold : (u : ℕ) → Holds o u none → (cs : Calls) → onlyDue o cs ≡ true → Holds o u (acc cs)
   unfolding onlyDue acceptedOf

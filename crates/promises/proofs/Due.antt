@@ -13,6 +13,8 @@ use Rattle.seen.specs.declared.Micros.{Micros}
 use Rattle.receiver.specs.declared.Agreed.{Agreed}
 use Rattle.receiver.specs.declared.Receiver.{Receiver}
 use Rattle.receiver.specs.Packet.{startsCongestion, nothingAgreed, firstCause, congestion}
+use Rattle.receiver.specs.declared.Mark.{Mark}
+use Rattle.receiver.specs.Totals.{isCe}
 use Rattle.promises.specs.Sequence.{packet, Calls, _then_, opening}
 use Rattle.promises.specs.Accepted.{Packet, acceptedOf, packets, since, before, frames}
 use Rattle.promises.specs.Told.{largest, elicitingOf, lastMark, inForce, seenOf, pendingOf}
@@ -27,34 +29,34 @@ mark-kept true = refl
 mark-kept false = refl
 
 -- where there is no packet the last one had no mark
-no-packet : (marked none : Bool) (ps : List Packet)
-    → startsCongestion marked none (not (eqb (largest ps) 0) && not (eqb (pick (lastMark ps) 1 0) 0)) ≡ startsCongestion marked none (lastMark ps)
+no-packet : (ce none : Bool) (ps : List Packet)
+    → startsCongestion ce none (not (eqb (largest ps) 0) && not (eqb (pick (lastMark ps) 1 0) 0)) ≡ startsCongestion ce none (lastMark ps)
 unfolding largest lastMark
-no-packet marked none [] = refl
-no-packet marked none (p ∷ ps) =
-    rw (ne-eqb (largest (p ∷ ps)) 0 (λ z. omega (arith, le-max-right (largest ps) (p .number + 1)))) (ap (startsCongestion marked none) (mark-kept (p .marked)))
+no-packet ce none [] = refl
+no-packet ce none (p ∷ ps) =
+    rw (ne-eqb (largest (p ∷ ps)) 0 (λ z. omega (arith, le-max-right (largest ps) (p .number + 1)))) (ap (startsCongestion ce none) (mark-kept (isCe (p .mark))))
 
-congestion-told : (opened : Receiver) (cs : Calls) (marked : Bool)
-    → congestion (known opened cs) marked ≡ startsCongestion marked (nothingAgreed (inForce (opened .agreed) (frames cs))) (lastMark (packets cs))
+congestion-told : (opened : Receiver) (cs : Calls) (ce : Bool)
+    → congestion (known opened cs) ce ≡ startsCongestion ce (nothingAgreed (inForce (opened .agreed) (frames cs))) (lastMark (packets cs))
 unfolding congestion seenOf
-congestion-told opened cs marked = no-packet marked (nothingAgreed (inForce (opened .agreed) (frames cs))) (packets cs)
+congestion-told opened cs ce = no-packet ce (nothingAgreed (inForce (opened .agreed) (frames cs))) (packets cs)
 
-numbers-are : (opened : Receiver) (cs : Calls) (n : ℕ) (time : Micros) (marked : Bool) → ofPacket opened cs n time marked ≡ inNumbers opened cs n time marked
+numbers-are : (opened : Receiver) (cs : Calls) (n : ℕ) (time : Micros) (mark : Mark) → ofPacket opened cs n time mark ≡ inNumbers opened cs n time mark
 unfolding firstCause seenOf pendingOf
-numbers-are opened cs n time marked =
+numbers-are opened cs n time mark =
     let values : Agreed = inForce (opened .agreed) (frames cs) in
-    let now : Calls = cs then packet n time true marked in
+    let now : Calls = cs then packet n time true mark in
     ap₂ (λ (b c : Bool). pick (ltb (values .threshold) (pendingOf now .count)) 2 (pick b 3 (pick c 4 0)))
     (in-numbers now (values .reordering) n (largest (elicitingOf (packets cs))) (largest (before cs)) (largest (elicitingOf (since now))))
-    (congestion-told opened cs marked)
+    (congestion-told opened cs (isCe mark))
 
 pub due-is : Due
 due-is = record { cause = cause-is; numbers = numbers-are }
 
 pub starts-as-read : StartsAsRead
 unfolding congestion
-starts-as-read t q maximum minimum cs marked =
-    ap (λ (r : Receiver). congestion r marked) (agrees t q maximum minimum cs)
-    ∙ congestion-told (opening t q maximum minimum) (acceptedOf (opening t q maximum minimum) cs) marked
-    ∙ ap (λ (none : Bool). startsCongestion marked none (lastMark (packets (acceptedOf (opening t q maximum minimum) cs))))
+starts-as-read t q maximum minimum cs ce =
+    ap (λ (r : Receiver). congestion r ce) (agrees t q maximum minimum cs)
+    ∙ congestion-told (opening t q maximum minimum) (acceptedOf (opening t q maximum minimum) cs) ce
+    ∙ ap (λ (none : Bool). startsCongestion ce none (lastMark (packets (acceptedOf (opening t q maximum minimum) cs))))
     (no-frame (opening t q maximum minimum .agreed) (frames (acceptedOf (opening t q maximum minimum) cs)) (nothing-processed t q maximum minimum))

@@ -36,12 +36,12 @@ packet-rises s n time =
 -- what an accepted call makes
 made-rises : (r : Receiver) (c : Call) → Rises (r .seen) (made r c .seen)
 unfolding packetAfter agreedAfter afterWrite confirmedAfter
-made-rises r (packet n time true marked) = packet-rises (r .seen) n time
-made-rises r (packet n time false marked) = packet-rises (r .seen) n time
+made-rises r (packet n time true mark) = packet-rises (r .seen) n time
+made-rises r (packet n time false mark) = packet-rises (r .seen) n time
 made-rises r (timer time) = same (r .seen)
 made-rises r immediate = same (r .seen)
 made-rises r (threshold s t d q) = same (r .seen)
-made-rises r (write time room) = same (r .seen)
+made-rises r (write time kind room) = same (r .seen)
 made-rises r (confirm k) = record { own = le-max-left (r .seen .confirmed) (min (k + 1) (r .seen .end - 1)); end = le-refl (r .seen .end) }
 
 step-rises : (r : Receiver) (c : Call) → Rises (r .seen) (step r c .next .seen)

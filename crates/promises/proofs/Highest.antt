@@ -13,6 +13,7 @@ use Rattle.receiver.specs.declared.Millis.{Millis}
 use Rattle.seen.specs.declared.Micros.{Micros}
 use Rattle.receiver.specs.declared.Receiver.{Receiver}
 use Rattle.receiver.specs.Packet.{order}
+use Rattle.receiver.specs.declared.Mark.{Mark}
 use Rattle.promises.specs.Sequence.{packet, Calls, _then_, accepted, after, replied, opening}
 use Rattle.promises.specs.Accepted.{Packet, acceptedOf, packets, since, before}
 use Rattle.promises.specs.Told.{largest, elicitingOf, floorIn, pendingOf, tell}
@@ -51,7 +52,7 @@ same-by-highest cs (suc (suc r)) n highest =
     reported (floorIn cs) (packets cs) reach a h (omega (arith, highest-reported cs))
     ∙ sym (reported (floorIn cs) (packets cs) reach a u (omega (arith, highest-reported cs))))
 
-module _ (t q : ℕ) (m : Millis) (w : Micros) (cs : Calls) (n : ℕ) (time : Micros) (marked : Bool) (e : replied (opening t q m w) cs (packet n time true marked) ≡ accepted) where
+module _ (t q : ℕ) (m : Millis) (w : Micros) (cs : Calls) (n : ℕ) (time : Micros) (mark : Mark) (e : replied (opening t q m w) cs (packet n time true mark) ≡ accepted) where
   abbrev o : Receiver
   o = opening t q m w
 
@@ -59,16 +60,16 @@ module _ (t q : ℕ) (m : Millis) (w : Micros) (cs : Calls) (n : ℕ) (time : Mi
   acc = acceptedOf (opening t q m w) cs
 
   now : Calls
-  now = acc then packet n time true marked
+  now = acc then packet n time true mark
 
   -- the record with the packet
-  new-told : after o (cs then packet n time true marked) ≡ tell o now (due o now)
+  new-told : after o (cs then packet n time true mark) ≡ tell o now (due o now)
   unfolding acceptedOf now
-  new-told = rw e at (agrees t q m w (cs then packet n time true marked))
+  new-told = rw e at (agrees t q m w (cs then packet n time true mark))
 
   -- the line on the two records, with the end of H or of U, in numbers
   line : (end : Receiver → ℕ)
-      → order (after o (cs then packet n time true marked) .seen) (after o cs .agreed .reordering) n (after o cs .highest) (after o cs .acknowledged) (end (after o (cs then packet n time true marked)))
+      → order (after o (cs then packet n time true mark) .seen) (after o cs .agreed .reordering) n (after o cs .highest) (after o cs .acknowledged) (end (after o (cs then packet n time true mark)))
       ≡ orderOf (floorIn now) (packets now) (after o cs .agreed .reordering) n (after o cs .highest) (largest (before now)) (end (tell o now (due o now)))
   unfolding now before
   line end =
@@ -77,7 +78,7 @@ module _ (t q : ℕ) (m : Millis) (w : Micros) (cs : Calls) (n : ℕ) (time : Mi
 
 pub same : SameByHighest
 unfolding pendingOf
-same t q m w cs n time marked e =
-    line t q m w cs n time marked e (λ r. r .highest)
-    ∙ same-by-highest (now t q m w cs n time marked e) (after (opening t q m w) cs .agreed .reordering) n (after (opening t q m w) cs .highest)
-    ∙ sym (line t q m w cs n time marked e (λ r. r .pending .end))
+same t q m w cs n time mark e =
+    line t q m w cs n time mark e (λ r. r .highest)
+    ∙ same-by-highest (now t q m w cs n time mark e) (after (opening t q m w) cs .agreed .reordering) n (after (opening t q m w) cs .highest)
+    ∙ sym (line t q m w cs n time mark e (λ r. r .pending .end))

@@ -25,6 +25,11 @@ use Rattle.receiver.specs.Calls.{timerDue, timerAfter, immediateAfter, agreedAf
 use Rattle.receiver.proofs.Clauses.{consistent-exactly}
 use Rattle.seen.proofs.After.{seen-end, seen-confirmed}
 use Rattle.receiver.proofs.Emits.{write-keeps}
+use Rattle.receiver.specs.declared.Mark.{Mark}
+use Rattle.receiver.specs.declared.Kind.{Kind}
+use Rattle.receiver.specs.declared.Mark.the-variants.{None, Ect0, Ect1, Ce}
+use Rattle.receiver.specs.declared.Totals.{Totals}
+use Rattle.receiver.specs.Totals.{isCe, totalsAfter}
 use Rattle.promises.specs.Sequence.{Call, packet, timer, immediate, threshold, write, confirm, Calls, none, _then_, Reply, accepted, stale, refused, Outcome, step, after, opening}
 use Rattle.promises.specs.Kept.{Kept}
 use Rattle.promises.proofs.Writing.{write-is-step}
@@ -52,17 +57,26 @@ standing-below : (cause new : ℕ) → cause ≤ 5 → new ≤ 5 → standing ca
 standing-below zero new f g = g
 standing-below (suc cause) new f g = f
 
-first-below : (r : Receiver) (n : ℕ) (marked : Bool) (s : Seen) (p : Pending) → firstCause r n marked s p ≤ 5
+first-below : (r : Receiver) (n : ℕ) (ce : Bool) (s : Seen) (p : Pending) → firstCause r n ce s p ≤ 5
 unfolding firstCause
-first-below r n marked s p =
+first-below r n ce s p =
     let o : Bool = order s (r .agreed .reordering) n (r .highest) (r .acknowledged) (p .end) in
-    pick-below (ltb (r .agreed .threshold) (p .count)) 2 (pick o 3 (pick (congestion r marked) 4 0)) 5 (omega arith)
-    (pick-below o 3 (pick (congestion r marked) 4 0) 5 (omega arith) (pick-below (congestion r marked) 4 0 5 (omega arith) (omega arith)))
+    pick-below (ltb (r .agreed .threshold) (p .count)) 2 (pick o 3 (pick (congestion r ce) 4 0)) 5 (omega arith)
+    (pick-below o 3 (pick (congestion r ce) 4 0) 5 (omega arith) (pick-below (congestion r ce) 4 0 5 (omega arith) (omega arith)))
+
+-- no total passes its limit
+totals-below : (t : Totals) (mark : Mark) → (t .ect0 ≤ limit) × (t .ect1 ≤ limit) × (t .ce ≤ limit) × (t .unmarked ≤ limit)
+    → (totalsAfter t mark .ect0 ≤ limit) × (totalsAfter t mark .ect1 ≤ limit) × (totalsAfter t mark .ce ≤ limit) × (totalsAfter t mark .unmarked ≤ limit)
+unfolding totalsAfter
+totals-below t None h = (h .0, h .1, h .2, min-le-right (t .unmarked + 1) limit)
+totals-below t Ect0 h = (min-le-right (t .ect0 + 1) limit, h .1, h .2, h .3)
+totals-below t Ect1 h = (h .0, min-le-right (t .ect1 + 1) limit, h .2, h .3)
+totals-below t Ce h = (h .0, h .1, min-le-right (t .ce + 1) limit, h .3)
 
 -- ---- each call
 
-plain-kept : (r : Receiver) (n : ℕ) (time : Micros) (marked : Bool) → Consistent r → PacketMeets (r .seen) n time → Consistent (plainAfter r n time marked)
-plain-kept r n time marked k m =
+plain-kept : (r : Receiver) (n : ℕ) (time : Micros) (mark : Mark) → Consistent r → PacketMeets (r .seen) n time → Consistent (plainAfter r n time mark)
+plain-kept r n time mark k m =
     let e : seenAfter (r .seen) n time .end ≡ max (r .seen .end) (n + 1) = seen-end (r .seen) n time in
     let u : r .seen .end ≤ max (r .seen .end) (n + 1) = le-max-left (r .seen .end) (n + 1) in
     let v : n + 1 ≤ max (r .seen .end) (n + 1) = le-max-right (r .seen .end) (n + 1) in
@@ -87,14 +101,15 @@ plain-kept r n time marked k m =
       own = s .own;
       below = s .below;
       floor = omega (arith, k .floor, seen-confirmed (r .seen) n time);
+      totals = totals-below (r .totals) mark (k .totals);
       nothing = λ z. absurd (omega arith);
     }
 
-eliciting-kept : (r : Receiver) (n : ℕ) (time : Micros) (marked : Bool) → Consistent r → PacketMeets (r .seen) n time
-    → Consistent (elicitingAfter r (plainAfter r n time marked) n time marked)
+eliciting-kept : (r : Receiver) (n : ℕ) (time : Micros) (mark : Mark) → Consistent r → PacketMeets (r .seen) n time
+    → Consistent (elicitingAfter r (plainAfter r n time mark) n time mark)
 unfolding pendingAfter causeAfter
-eliciting-kept r n time marked k m =
-    let q = plain-kept r n time marked k m in
+eliciting-kept r n time mark k m =
+    let q = plain-kept r n time mark k m in
     let e : seenAfter (r .seen) n time .end ≡ max (r .seen .end) (n + 1) = seen-end (r .seen) n time in
     let u : r .seen .end ≤ max (r .seen .end) (n + 1) = le-max-left (r .seen .end) (n + 1) in
     let v : n + 1 ≤ max (r .seen .end) (n + 1) = le-max-right (r .seen .end) (n + 1) in
@@ -113,7 +128,7 @@ eliciting-kept r n time marked k m =
       minimum = k .minimum;
       delay = k .delay;
       least = k .least;
-      cause = standing-below (r .cause) (firstCause r n marked (seenAfter (r .seen) n time) pending) (k .cause) (first-below r n marked (seenAfter (r .seen) n time) pending);
+      cause = standing-below (r .cause) (firstCause r n (isCe mark) (seenAfter (r .seen) n time) pending) (k .cause) (first-below r n (isCe mark) (seenAfter (r .seen) n time) pending);
       acknowledged = q .acknowledged;
       highest = omega arith;
       unacknowledged = omega arith;
@@ -121,13 +136,14 @@ eliciting-kept r n time marked k m =
       own = q .own;
       below = q .below;
       floor = q .floor;
+      totals = q .totals;
       nothing = λ z. absurd (omega arith);
     }
 
-packet-kept : (r : Receiver) (n : ℕ) (time : Micros) (eliciting marked : Bool) → Consistent r → PacketMeets (r .seen) n time → Consistent (packetAfter r n time eliciting marked)
+packet-kept : (r : Receiver) (n : ℕ) (time : Micros) (eliciting : Bool) (mark : Mark) → Consistent r → PacketMeets (r .seen) n time → Consistent (packetAfter r n time eliciting mark)
 unfolding packetAfter
-packet-kept r n time true marked k m = eliciting-kept r n time marked k m
-packet-kept r n time false marked k m = plain-kept r n time marked k m
+packet-kept r n time true mark k m = eliciting-kept r n time mark k m
+packet-kept r n time false mark k m = plain-kept r n time mark k m
 
 -- the cause alone changes, and once something was received
 cause-kept : (r : Receiver) (cause : ℕ) → Consistent r → cause ≤ 5 → (r .seen .end ≡ 0 → cause ≡ 0) → Consistent (withCause r cause)
@@ -152,6 +168,7 @@ cause-kept r cause k f g =
       own = k .own;
       below = k .below;
       floor = k .floor;
+      totals = k .totals;
       nothing = g;
     }
 
@@ -195,6 +212,7 @@ threshold-kept r s t d q k m =
       own = k .own;
       below = k .below;
       floor = k .floor;
+      totals = k .totals;
       nothing = k .nothing;
     }
 
@@ -221,14 +239,15 @@ confirm-kept r n k =
       own = k .own;
       below = k .below;
       floor = max-le (k .floor) (min-le-right (n + 1) (r .seen .end - 1));
+      totals = k .totals;
       nothing = k .nothing;
     }
 
 -- receiver keeps it for every buffer; of the buffer only the length tells
-write-kept : (r : Receiver) (time : Micros) (room : ℕ) → consistent r ≡ true → consistent (step r (write time room) .next) ≡ true
-write-kept r time room k =
-    subst (λ (n : ℕ). consistent (step r (write time n) .next) ≡ true) (length-replicate room 0)
-    (ap (λ (x : Outcome). consistent (x .next)) (write-is-step r time (replicate room 0)) ∙ write-keeps r time (replicate room 0) k)
+write-kept : (r : Receiver) (time : Micros) (kind : Kind) (room : ℕ) → consistent r ≡ true → consistent (step r (write time kind room) .next) ≡ true
+write-kept r time kind room k =
+    subst (λ (n : ℕ). consistent (step r (write time kind n) .next) ≡ true) (length-replicate room 0)
+    (ap (λ (x : Outcome). consistent (x .next)) (write-is-step r time kind (replicate room 0)) ∙ write-keeps r time kind (replicate room 0) k)
 
 -- ---- the theorem
 
@@ -243,11 +262,11 @@ module _ (r : Receiver) (c : Call) (k : consistent r ≡ true) where
   by-reply f (refused n) e = unmoved (λ g. let z : _≡_ {A = ℕ} 0 1 = cc in omega arith)
 
 call-kept : (r : Receiver) (c : Call) → consistent r ≡ true → consistent (step r c .next) ≡ true
-call-kept r (packet n time eliciting marked) k = by-reply r (packet n time eliciting marked) k (packet-kept r n time eliciting marked) _ refl
+call-kept r (packet n time eliciting mark) k = by-reply r (packet n time eliciting mark) k (packet-kept r n time eliciting mark) _ refl
 call-kept r (timer time) k = by-reply r (timer time) k (λ c m. timer-kept r time c) _ refl
 call-kept r immediate k = by-reply r immediate k (immediate-kept r) _ refl
 call-kept r (threshold s t d q) k = by-reply r (threshold s t d q) k (threshold-kept r s t d q) _ refl
-call-kept r (write time room) k = write-kept r time room k
+call-kept r (write time kind room) k = write-kept r time kind room k
 call-kept r (confirm n) k = by-reply r (confirm n) k (λ c m. confirm-kept r n c) _ refl
 
 pub along : (t q : ℕ) (m : Millis) (u : Micros) (cs : Calls) → consistent (after (opening t q m u) cs) ≡ true

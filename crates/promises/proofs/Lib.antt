@@ -9,6 +9,7 @@ pub mod WindowKept
 pub mod Kept
 pub mod Unchanged
 pub mod Floor
+pub mod Totals
 pub mod Along
 pub mod Told
 pub mod Replies

@@ -20,6 +20,7 @@ use Rattle.receiver.specs.declared.Agreed.{Agreed}
 use Rattle.receiver.specs.declared.Receiver.{Receiver}
 use Rattle.receiver.specs.Packet.{standing}
 use Rattle.receiver.specs.Calls.{timerDue}
+use Rattle.receiver.specs.declared.Mark.{Mark}
 use Rattle.promises.specs.Sequence.{packet, timer, immediate, threshold, write, confirm, Calls, none, _then_, opening}
 use Rattle.promises.specs.Accepted.{Packet, packetOf, acceptedOf, packets, since, before, frames}
 use Rattle.promises.specs.Told.{largest, elicitingOf, among, inForce, confirmedOf, floorIn, pendingOf}
@@ -38,21 +39,21 @@ unfolding among
 still-missing p ps m e = neither-right (eqb (p .number) m) (among ps m) e
 
 -- with an ack-eliciting one the largest of these
-eliciting-largest : (n : ℕ) (time : Micros) (marked : Bool) (ps : List Packet) → largest (elicitingOf (packetOf n time true marked ∷ ps)) ≡ max (largest (elicitingOf ps)) (n + 1)
+eliciting-largest : (n : ℕ) (time : Micros) (mark : Mark) (ps : List Packet) → largest (elicitingOf (packetOf n time true mark ∷ ps)) ≡ max (largest (elicitingOf ps)) (n + 1)
 unfolding largest elicitingOf
-eliciting-largest n time marked ps = refl
+eliciting-largest n time mark ps = refl
 
 -- a number among them is below their end
 among-below : (ps : List Packet) (n : ℕ) → among ps n ≡ true → n < largest ps
 among-below ps n e = split (largest ps) n (λ h. absurd (false≢true (sym (none-above ps n h) ∙ e))) (λ h. h)
 
 -- one more packet on both sides
-eliciting-below : (n : ℕ) (time : Micros) (eliciting marked : Bool) (qs ps : List Packet) → largest (elicitingOf qs) ≤ largest ps
-    → largest (elicitingOf (packetOf n time eliciting marked ∷ qs)) ≤ largest (packetOf n time eliciting marked ∷ ps)
+eliciting-below : (n : ℕ) (time : Micros) (eliciting : Bool) (mark : Mark) (qs ps : List Packet) → largest (elicitingOf qs) ≤ largest ps
+    → largest (elicitingOf (packetOf n time eliciting mark ∷ qs)) ≤ largest (packetOf n time eliciting mark ∷ ps)
 unfolding largest elicitingOf
-eliciting-below n time true marked qs ps h =
+eliciting-below n time true mark qs ps h =
     max-le (omega (arith, h, le-max-left (largest ps) (n + 1))) (le-max-right (largest ps) (n + 1))
-eliciting-below n time false marked qs ps h = omega (arith, h, le-max-left (largest ps) (n + 1))
+eliciting-below n time false mark qs ps h = omega (arith, h, le-max-left (largest ps) (n + 1))
 
 none-below : (k : ℕ) → largest (elicitingOf []) ≤ k
 unfolding largest elicitingOf
@@ -66,20 +67,20 @@ restarted false qs k h = none-below k
 under-below : (o : Receiver) (cs : Calls) → largest (elicitingOf (underSameR o cs)) ≤ largest (packets cs)
 unfolding underSameR packets
 under-below o none = none-below (largest [])
-under-below o (cs then packet n time eliciting marked) = eliciting-below n time eliciting marked (underSameR o cs) (packets cs) (under-below o cs)
+under-below o (cs then packet n time eliciting mark) = eliciting-below n time eliciting mark (underSameR o cs) (packets cs) (under-below o cs)
 under-below o (cs then timer time) = under-below o cs
 under-below o (cs then immediate) = under-below o cs
 under-below o (cs then threshold s t d q) =
     restarted (sameR o cs (cs then threshold s t d q)) (underSameR o cs) (largest (packets cs)) (under-below o cs)
-under-below o (cs then write time room) = under-below o cs
+under-below o (cs then write time kind room) = under-below o cs
 under-below o (cs then confirm k) = under-below o cs
 
 -- ---- the floor and what was written
 
-floor-grows : (o : Receiver) (cs : Calls) (n : ℕ) (time : Micros) (eliciting marked : Bool) → floorIn cs ≤ floorIn (cs then packet n time eliciting marked)
+floor-grows : (o : Receiver) (cs : Calls) (n : ℕ) (time : Micros) (eliciting : Bool) (mark : Mark) → floorIn cs ≤ floorIn (cs then packet n time eliciting mark)
 unfolding confirmedOf packets
-floor-grows o cs n time eliciting marked =
-    let g : floorOf (largest (packets cs)) ≤ floorOf (largest (packetOf n time eliciting marked ∷ packets cs)) = omega (arith, largest-grows (packetOf n time eliciting marked) (packets cs)) in
+floor-grows o cs n time eliciting mark =
+    let g : floorOf (largest (packets cs)) ≤ floorOf (largest (packetOf n time eliciting mark ∷ packets cs)) = omega (arith, largest-grows (packetOf n time eliciting mark) (packets cs)) in
     max-le (le-max-left (confirmedOf cs) _) (le-trans g (le-max-right (confirmedOf cs) _))
 
 floor-raised : (cs : Calls) (k : ℕ) → floorIn cs ≤ floorIn (cs then confirm k)
@@ -90,11 +91,11 @@ floor-raised cs k = max-le (le-trans (le-max-left (confirmedOf cs) _) (le-max-le
 acknowledged-written : (cs : Calls) → largest (before cs) ≤ writtenUpTo cs
 unfolding before writtenUpTo largest
 acknowledged-written none = omega arith
-acknowledged-written (cs then packet n time eliciting marked) = acknowledged-written cs
+acknowledged-written (cs then packet n time eliciting mark) = acknowledged-written cs
 acknowledged-written (cs then timer time) = acknowledged-written cs
 acknowledged-written (cs then immediate) = acknowledged-written cs
 acknowledged-written (cs then threshold s t d q) = acknowledged-written cs
-acknowledged-written (cs then write time room) = le-max-right (writtenUpTo cs) (largest (packets cs))
+acknowledged-written (cs then write time kind room) = le-max-right (writtenUpTo cs) (largest (packets cs))
 acknowledged-written (cs then confirm k) = acknowledged-written cs
 
 -- ---- the order line
@@ -147,20 +148,20 @@ sets : (cause new : ℕ) → (new ≡ 0 → ⊥) → standing cause new ≡ 0 �
 sets zero new f z = f z
 sets (suc cause) new f z = omega arith
 
-cause-set : (o : Receiver) (cs : Calls) (n : ℕ) (time : Micros) (marked : Bool) (m : ℕ) → 2 ≤ rInForce o cs
-    → floorIn (cs then packet n time true marked) ≤ m
-    → among (packets (cs then packet n time true marked)) m ≡ false
+cause-set : (o : Receiver) (cs : Calls) (n : ℕ) (time : Micros) (mark : Mark) (m : ℕ) → 2 ≤ rInForce o cs
+    → floorIn (cs then packet n time true mark) ≤ m
+    → among (packets (cs then packet n time true mark)) m ≡ false
     → largest (before cs) ≤ m + acts (rInForce o cs)
-    → m + acts (rInForce o cs) < largest (elicitingOf (since (cs then packet n time true marked)))
-    → ofPacket o cs n time marked ≡ 0 → ⊥
+    → m + acts (rInForce o cs) < largest (elicitingOf (since (cs then packet n time true mark)))
+    → ofPacket o cs n time mark ≡ 0 → ⊥
 unfolding rInForce
-cause-set o cs n time marked m a f e l h z =
+cause-set o cs n time mark m a f e l h z =
     let values : Agreed = inForce (o .agreed) (frames cs) in
-    let now : Calls = cs then packet n time true marked in
+    let now : Calls = cs then packet n time true mark in
     let w : largest (elicitingOf (since now)) ≤ largest (packets now) = le-trans (pending-below now) (highest-below (packets now)) in
     pick-set (ltb (values .threshold) (pendingOf now .count)) _ _
     (order-holds (floorIn now) (packets now) (values .reordering) n (largest (elicitingOf (packets cs))) (largest (before cs)) (largest (elicitingOf (since now))) m a f e l h w)
-    (sym (due-is .numbers o cs n time marked) ∙ z)
+    (sym (due-is .numbers o cs n time mark) ∙ z)
 
 -- ---- along the accepted calls
 
@@ -176,37 +177,37 @@ carried cause new (inl f) = inl (stands cause new f)
 carried cause new (inr x) = inr x
 
 -- U is at least this packet
-new-below : (cs : Calls) (n : ℕ) (time : Micros) (marked : Bool) → n < largest (elicitingOf (since (cs then packet n time true marked)))
+new-below : (cs : Calls) (n : ℕ) (time : Micros) (mark : Mark) → n < largest (elicitingOf (since (cs then packet n time true mark)))
 unfolding since
-new-below cs n time marked = omega (arith, eliciting-largest n time marked (since cs), le-max-right (largest (elicitingOf (since cs))) (n + 1))
+new-below cs n time mark = omega (arith, eliciting-largest n time mark (since cs), le-max-right (largest (elicitingOf (since cs))) (n + 1))
 
 -- what is above a packet is above those before it
-earlier : (n : ℕ) (time : Micros) (marked : Bool) (ps : List Packet) (k : ℕ) → n < k → k < largest (elicitingOf (packetOf n time true marked ∷ ps)) → k < largest (elicitingOf ps)
-earlier n time marked ps k l h =
+earlier : (n : ℕ) (time : Micros) (mark : Mark) (ps : List Packet) (k : ℕ) → n < k → k < largest (elicitingOf (packetOf n time true mark ∷ ps)) → k < largest (elicitingOf ps)
+earlier n time mark ps k l h =
     split (largest (elicitingOf ps)) k
-    (λ u. let v : max (largest (elicitingOf ps)) (n + 1) ≤ k = max-le u (omega arith) in absurd (omega (arith, eliciting-largest n time marked ps, v, h)))
+    (λ u. let v : max (largest (elicitingOf ps)) (n + 1) ≤ k = max-le u (omega arith) in absurd (omega (arith, eliciting-largest n time mark ps, v, h)))
     (λ u. u)
 
 -- an ack-eliciting packet
-on-eliciting : (o : Receiver) (cs : Calls) (n : ℕ) (time : Micros) (marked : Bool) (m : ℕ) → Holds o cs m → Holds o (cs then packet n time true marked) m
+on-eliciting : (o : Receiver) (cs : Calls) (n : ℕ) (time : Micros) (mark : Mark) (m : ℕ) → Holds o cs m → Holds o (cs then packet n time true mark) m
 unfolding rInForce frames packets before underSameR writtenUpTo due
-on-eliciting o cs n time marked m i a f e h =
-    let p : Packet = packetOf n time true marked in
+on-eliciting o cs n time mark m i a f e h =
+    let p : Packet = packetOf n time true mark in
     let r : ℕ = acts (rInForce o cs) in
-    let g : floorIn cs ≤ m = le-trans (floor-grows o cs n time true marked) f in
+    let g : floorIn cs ≤ m = le-trans (floor-grows o cs n time true mark) f in
     let x : among (packets cs) m ≡ false = still-missing p (packets cs) m e in
     split (m + r) n
     (λ u. split (largest (before cs)) (m + r)
-    (λ v. inl (sets (due o cs) (ofPacket o cs n time marked) (cause-set o cs n time marked m a f e v (omega (arith, u, new-below cs n time marked)))))
+    (λ v. inl (sets (due o cs) (ofPacket o cs n time mark) (cause-set o cs n time mark m a f e v (omega (arith, u, new-below cs n time mark)))))
     (λ v. inr (omega (arith, v, acknowledged-written cs))))
-    (λ u. carried (due o cs) (ofPacket o cs n time marked) (i a g x (earlier n time marked (underSameR o cs) (m + r) u h)))
+    (λ u. carried (due o cs) (ofPacket o cs n time mark) (i a g x (earlier n time mark (underSameR o cs) (m + r) u h)))
 
 -- any other packet
-on-other : (o : Receiver) (cs : Calls) (n : ℕ) (time : Micros) (marked : Bool) (m : ℕ) → Holds o cs m → Holds o (cs then packet n time false marked) m
+on-other : (o : Receiver) (cs : Calls) (n : ℕ) (time : Micros) (mark : Mark) (m : ℕ) → Holds o cs m → Holds o (cs then packet n time false mark) m
 unfolding rInForce frames packets before underSameR writtenUpTo due elicitingOf
-on-other o cs n time marked m i a f e h =
-    let p : Packet = packetOf n time false marked in
-    i a (le-trans (floor-grows o cs n time false marked) f) (still-missing p (packets cs) m e) h
+on-other o cs n time mark m i a f e h =
+    let p : Packet = packetOf n time false mark in
+    i a (le-trans (floor-grows o cs n time false mark) f) (still-missing p (packets cs) m e) h
 
 -- a threshold frame: r is R after it
 on-threshold : (o : Receiver) (cs : Calls) (m r : ℕ) (same : Bool) → eqb r (rInForce o cs) ≡ same → Holds o cs m → 2 ≤ r
@@ -219,12 +220,12 @@ on-threshold o cs m r false t i a f e h = absurd (omega (arith, none-below 0, h)
 holds : (o : Receiver) (cs : Calls) (m : ℕ) → Holds o cs m
 unfolding frames packets before underSameR sameR writtenUpTo due rInForce confirmedOf
 holds o none m a f e h = absurd (omega (arith, none-below 0, h))
-holds o (cs then packet n time true marked) m a f e h = on-eliciting o cs n time marked m (holds o cs m) a f e h
-holds o (cs then packet n time false marked) m a f e h = on-other o cs n time marked m (holds o cs m) a f e h
+holds o (cs then packet n time true mark) m a f e h = on-eliciting o cs n time mark m (holds o cs m) a f e h
+holds o (cs then packet n time false mark) m a f e h = on-other o cs n time mark m (holds o cs m) a f e h
 holds o (cs then timer time) m a f e h = carried (due o cs) (pick (timerDue (known o cs) time) 5 0) (holds o cs m a f e h)
 holds o (cs then immediate) m a f e h = carried (due o cs) 1 (holds o cs m a f e h)
 holds o (cs then threshold s t d q) m a f e h = on-threshold o cs m (rInForce o (cs then threshold s t d q)) _ refl (holds o cs m) a f e h
-holds o (cs then write time room) m a f e h = inr (omega (arith, h, under-below o cs, le-max-right (writtenUpTo cs) (largest (packets cs))))
+holds o (cs then write time kind room) m a f e h = inr (omega (arith, h, under-below o cs, le-max-right (writtenUpTo cs) (largest (packets cs))))
 holds o (cs then confirm k) m a f e h = holds o cs m a (le-trans (floor-raised cs k) f) e h
 
 -- ---- the theorem

@@ -1,10 +1,10 @@
 -- The settled cases of No loss kept back: antt computes them.
 -- Assumes nothing.
 use mathlib.Core.Path.{refl}
-use Rattle.wire.specs.Numbers.{firstFrom, form, encode, encodeAll}
+use Rattle.wire.specs.Numbers.{firstFrom, form, encode, encodeAll, allSmall}
 use Rattle.window.specs.Words.{numberOf, wordsOf, bit}
 use Rattle.window.specs.Window.{firstClear, runBelow}
-use Rattle.frames.specs.Ack.{gapsFrom, ackNumbers}
+use Rattle.frames.specs.Ack.{gapsFrom, rangeNumbers}
 use Rattle.seen.specs.Received.{seenConsistent, numberRefusal, seenAfter, confirmedAfter, firstMissing}
 use Rattle.receiver.specs.Record.{limitsRule, delayRule, pendingConsistent, agreedConsistent, consistent}
 use Rattle.receiver.specs.Packet.{packetRefusal, pendingAfter, outOfOrder, gapReached, order, congestion, firstCause, causeAfter, packetAfter, packetCall}
@@ -12,6 +12,7 @@ use Rattle.receiver.specs.Calls.{opened, openRefusal, openCall, immediateRefusa
 use Rattle.seen.specs.Ack.{rangesBelow, frame}
 use Rattle.receiver.specs.Write.{writeRefusal, afterWrite}
 use Rattle.receiver.specs.Confirm.{confirmRefusal, confirmCall}
+use Rattle.receiver.specs.Totals.{totalsConsistent, totalsAfter}
 use Rattle.promises.specs.Sequence.{step, inOrder, after}
 use Rattle.promises.specs.Accepted.{acceptedOf, packets, frames}
 use Rattle.promises.specs.Told.{noFrame, largest, elicitingOf, among, lastMark, largestSequence, inForce, confirmedOf}
@@ -19,7 +20,7 @@ use Rattle.promises.specs.NoLoss.{rInForce, sameR, underSameR, writtenUp
 use Rattle.promises.specs.NoLossCases.{Cases}
 
 pub cases : Cases
-unfolding firstFrom form encode encodeAll gapsFrom ackNumbers numberOf wordsOf bit firstClear runBelow limitsRule delayRule seenConsistent pendingConsistent agreedConsistent consistent numberRefusal packetRefusal seenAfter pendingAfter firstMissing outOfOrder gapReached order congestion firstCause causeAfter packetAfter packetCall opened openRefusal openCall immediateRefusal immediateCall timerDue timerRefusal timerCall agreedAfter thresholdVerdict thresholdCall rangesBelow frame writeRefusal afterWrite confirmedAfter confirmRefusal confirmCall step inOrder after acceptedOf packets frames largest elicitingOf among lastMark noFrame largestSequence inForce confirmedOf rInForce sameR underSameR writtenUpTo
+unfolding firstFrom form encode encodeAll gapsFrom rangeNumbers numberOf wordsOf bit firstClear runBelow limitsRule delayRule seenConsistent pendingConsistent agreedConsistent totalsConsistent totalsAfter allSmall consistent numberRefusal packetRefusal seenAfter pendingAfter firstMissing outOfOrder gapReached order congestion firstCause causeAfter packetAfter packetCall opened openRefusal openCall immediateRefusal immediateCall timerDue timerRefusal timerCall agreedAfter thresholdVerdict thresholdCall rangesBelow frame writeRefusal afterWrite confirmedAfter confirmRefusal confirmCall step inOrder after acceptedOf packets frames largest elicitingOf among lastMark noFrame largestSequence inForce confirmedOf rInForce sameR underSameR writtenUpTo
 cases =
     record {
       due = record { missing = refl; window = refl; below = refl; inForce = refl; since = refl; cause = refl; written = refl };

@@ -43,6 +43,7 @@ opened-kept t q m u ft fq fm fu =
       own = λ h. absurd (omega arith);
       below = λ q h. made-mark 0 q h ∙ zero-mark q;
       floor = omega arith;
+      totals = (omega arith, omega arith, omega arith, omega arith);
       nothing = λ z. refl;
     }
 

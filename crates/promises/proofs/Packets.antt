@@ -50,22 +50,22 @@ highest-below (p ∷ ps) = go (highest-below ps) (p .eliciting)
 pub pending-below : (cs : Calls) → largest (elicitingOf (since cs)) ≤ largest (elicitingOf (packets cs))
 unfolding packets since elicitingOf largest
 pending-below none = omega arith
-pending-below (cs then packet n time true marked) = omega (arith, pending-below cs)
-pending-below (cs then packet n time false marked) = pending-below cs
+pending-below (cs then packet n time true mark) = omega (arith, pending-below cs)
+pending-below (cs then packet n time false mark) = pending-below cs
 pending-below (cs then timer time) = pending-below cs
 pending-below (cs then immediate) = pending-below cs
 pending-below (cs then threshold s t d q) = pending-below cs
-pending-below (cs then write time room) = omega arith
+pending-below (cs then write time kind room) = omega arith
 pending-below (cs then confirm k) = pending-below cs
 
 -- and H is at most the larger of U and A: what came before the last written ACK is at most A
 pub highest-reported : (cs : Calls) → largest (elicitingOf (packets cs)) ≤ max (largest (elicitingOf (since cs))) (largest (before cs))
 unfolding packets since before elicitingOf largest
 highest-reported none = omega arith
-highest-reported (cs then packet n time true marked) = omega (arith, highest-reported cs)
-highest-reported (cs then packet n time false marked) = highest-reported cs
+highest-reported (cs then packet n time true mark) = omega (arith, highest-reported cs)
+highest-reported (cs then packet n time false mark) = highest-reported cs
 highest-reported (cs then timer time) = highest-reported cs
 highest-reported (cs then immediate) = highest-reported cs
 highest-reported (cs then threshold s t d q) = highest-reported cs
-highest-reported (cs then write time room) = omega (arith, highest-below (packets cs))
+highest-reported (cs then write time kind room) = omega (arith, highest-below (packets cs))
 highest-reported (cs then confirm k) = highest-reported cs

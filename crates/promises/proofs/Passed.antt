@@ -11,9 +11,9 @@ use lib.Arith.{le-zero}
 use lib.Dec.{ltb, eqb}
 use borrow.Author.Tests.{lt-ltb, eqb-false, eq-eqb}
 use Rattle.wire.proofs.Lengths.{split}
-use Rattle.promises.specs.Accepted.{Packet}
+use Rattle.promises.specs.Accepted.{oneIf, Packet}
 use Rattle.promises.specs.Told.{largest, among}
-use Rattle.promises.specs.Passed.{oneIf, count, passes, passed, passedOver}
+use Rattle.promises.specs.Passed.{count, passes, passed, passedOver}
 use Rattle.promises.proofs.Truth.{either-left, either-right, both, both-left, both-right, neither-left, neither-right, not-both}
 use Rattle.promises.proofs.Packets.{largest-grows}
 

@@ -18,13 +18,15 @@ use Rattle.seen.specs.Received.{floor, floorOf, received, reported}
 use Rattle.receiver.specs.Record.{delayRule, consistent}
 use Rattle.seen.specs.Ack.{frame, ackDelay}
 use Rattle.receiver.specs.Exactly.{row, first, verdictOf}
+use Rattle.receiver.specs.declared.Totals.{Totals}
+use Rattle.receiver.specs.Totals.{tailOf}
 use Rattle.promises.specs.Sequence.{Call, packet, timer, immediate, threshold, write, confirm, Calls, none, _then_, Reply, replyOf, replyTo, after, replied, opening}
 use Rattle.promises.specs.Accepted.{joined, acceptedOf, packets}
-use Rattle.promises.specs.Told.{largest, among}
+use Rattle.promises.specs.Told.{largest, among, seenOf}
 use Rattle.promises.specs.Replies.{replyAfter, acceptedAfter, Replies}
 use Rattle.promises.proofs.Rows.{later-rows, by-rows}
 use Rattle.promises.proofs.Kept.{along}
-use Rattle.promises.proofs.Along.{limits-are, seen-is, end-is, floor-is, acknowledged-is, sequence-is}
+use Rattle.promises.proofs.Along.{limits-are, seen-is, end-is, floor-is, acknowledged-is, sequence-is, totals-are}
 use Rattle.promises.proofs.Told.{window-is}
 
 -- 6 asks for the mark only in the window
@@ -49,9 +51,9 @@ module _ (t q : ℕ) (m : Millis) (u : Micros) (cs : Calls) where
 
   reply-is : (c : Call) → replied o cs c ≡ replyAfter o acc c
   unfolding replyAfter
-  reply-is (packet n time eliciting marked) =
+  reply-is (packet n time eliciting mark) =
       let end : now .seen .end ≡ largest (packets acc) = end-is t q m u cs in
-      by-rows now (packet n time eliciting marked)
+      by-rows now (packet n time eliciting mark)
       ∙ ap replyOf
       (later-rows (consistent now) _ holds
       ∙ ap (λ (b : Bool). first (row 5 (not (small n && small (time .0))) ∷ row 6 b ∷ row 7 (ltb n (floor (now .seen))) ∷ []))
@@ -67,12 +69,14 @@ module _ (t q : ℕ) (m : Millis) (u : Micros) (cs : Calls) where
       (later-rows (consistent now) _ holds
       ∙ ap (λ (l : Limits). first (row 5 (not (small s && (small a && (small (d .0) && small b)))) ∷ row 4 (not (delayRule l d)) ∷ [])) (limits-are t q m u cs))
       (sequence-is t q m u cs))
-  reply-is (write time room) =
-      by-rows now (write time room)
+  reply-is (write time kind room) =
+      by-rows now (write time kind room)
       ∙ ap replyOf
       (later-rows (consistent now) _ holds
-      ∙ ap₂ (λ (e : ℕ) (s : Seen). first (row 5 (not (small (time .0))) ∷ row 8 (eqb e 0) ∷ row 9 (ltb room (length (frame (reported s) (ackDelay s time) 1))) ∷ []))
-      (end-is t q m u cs) (seen-is t q m u cs))
+      ∙ ap₂ (λ (e : ℕ) (s : Seen). first (row 5 (not (small (time .0))) ∷ row 8 (eqb e 0) ∷ row 9 (ltb room (length (frame (reported s) (tailOf kind (now .totals)) (ackDelay s time) 1))) ∷ []))
+      (end-is t q m u cs) (seen-is t q m u cs)
+      ∙ ap (λ (n : Totals). first (row 5 (not (small (time .0))) ∷ row 8 (eqb (largest (packets acc)) 0) ∷ row 9 (ltb room (length (frame (reported (seenOf acc)) (tailOf kind n) (ackDelay (seenOf acc) time) 1))) ∷ []))
+      (totals-are t q m u cs))
   reply-is (confirm k) =
       by-rows now (confirm k)
       ∙ ap replyOf

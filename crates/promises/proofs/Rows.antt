@@ -20,22 +20,22 @@ use Rattle.promises.proofs.Truth.{both-left, both-right}
 use Rattle.promises.proofs.Writing.{write-is-step}
 
 abbrev pub replyBy : Receiver → Call → Reply
-replyBy r (packet n time eliciting marked) = replyOf (first (packetRows r n time))
+replyBy r (packet n time eliciting mark) = replyOf (first (packetRows r n time))
 replyBy r (timer time) = replyOf (first (timerRows r time))
 replyBy r immediate = replyOf (first (immediateRows r))
 replyBy r (threshold s t d q) = replyTo (verdictOf (first (thresholdRows r s t d q)) (ltb s (r .agreed .sequence)))
-replyBy r (write time room) = replyOf (first (writeRows r time room))
+replyBy r (write time kind room) = replyOf (first (writeRows r time kind room))
 replyBy r (confirm k) = replyOf (first (confirmRows r k))
 
 pub by-rows : (r : Receiver) (c : Call) → step r c .reply ≡ replyBy r c
 unfolding step
-by-rows r (packet n time eliciting marked) = ap replyOf (exactly .packet r n time eliciting marked)
+by-rows r (packet n time eliciting mark) = ap replyOf (exactly .packet r n time eliciting mark)
 by-rows r (timer time) = ap replyOf (exactly .timer r time)
 by-rows r immediate = ap replyOf (exactly .immediate r)
 by-rows r (threshold s t d q) = ap replyTo (exactly .threshold r s t d q)
-by-rows r (write time room) =
-    subst (λ (k : ℕ). step r (write time k) .reply ≡ replyOf (first (writeRows r time k))) (length-replicate room 0)
-    (ap (λ (x : Outcome). x .reply) (write-is-step r time (replicate room 0)) ∙ ap replyOf (write-exactly r time (replicate room 0)))
+by-rows r (write time kind room) =
+    subst (λ (k : ℕ). step r (write time kind k) .reply ≡ replyOf (first (writeRows r time kind k))) (length-replicate room 0)
+    (ap (λ (x : Outcome). x .reply) (write-is-step r time kind (replicate room 0)) ∙ ap replyOf (write-exactly r time kind (replicate room 0)))
 by-rows r (confirm k) = ap replyOf (exactly .confirm r k)
 
 -- ---- refusal 1
@@ -73,9 +73,9 @@ pub not-one : (r : Receiver) (c : Call) → consistent r ≡ true → step r c .
 not-one r c k e = go c (sym (by-rows r c) ∙ e)
   where
     go : (c : Call) → replyBy r c ≡ refused 1 → ⊥
-    go (packet n time eliciting marked) f = other _ refl (sym (later-rows (consistent r) _ k) ∙ reply-one (first (packetRows r n time)) f)
+    go (packet n time eliciting mark) f = other _ refl (sym (later-rows (consistent r) _ k) ∙ reply-one (first (packetRows r n time)) f)
     go (timer time) f = other _ refl (sym (later-rows (consistent r) _ k) ∙ reply-one (first (timerRows r time)) f)
     go immediate f = other _ refl (sym (later-rows (consistent r) _ k) ∙ reply-one (first (immediateRows r)) f)
     go (threshold s t d q) f = other _ refl (sym (later-rows (consistent r) _ k) ∙ verdict-one (first (thresholdRows r s t d q)) _ f)
-    go (write time room) f = other _ refl (sym (later-rows (consistent r) _ k) ∙ reply-one (first (writeRows r time room)) f)
+    go (write time kind room) f = other _ refl (sym (later-rows (consistent r) _ k) ∙ reply-one (first (writeRows r time kind room)) f)
     go (confirm n) f = other _ refl (sym (later-rows (consistent r) _ k) ∙ reply-one (first (confirmRows r n)) f)

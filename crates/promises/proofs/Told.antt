@@ -1,7 +1,7 @@
 -- Told: each quantity is read off the record that the accepted calls tell.
 -- Assumes nothing.
-use Prim.Native.Nat.{ℕ, _^_, _≤_, _<_, min}
-use mathlib.Core.Path.{_≡_, refl, sym, ap, _∙_}
+use Prim.Native.Nat.{ℕ, _+_, _^_, _≤_, _<_, min}
+use mathlib.Core.Path.{_≡_, refl, sym, ap, _∙_, subst}
 use mathlib.Core.Bool.{Bool, false}
 use mathlib.Core.List.{List, [], _∷_}
 use native.Mathlib.Nat.{le-max-right}
@@ -15,13 +15,17 @@ use Rattle.seen.specs.declared.Seen.{Seen}
 use Rattle.receiver.specs.declared.Pending.{Pending}
 use Rattle.receiver.specs.declared.Receiver.{Receiver}
 use Rattle.seen.specs.Received.{floor, floorOf, placeOf, received}
+use Rattle.receiver.specs.declared.Mark.{Mark}
 use Rattle.promises.specs.Sequence.{packet, threshold, Calls, accepted, after, replied, opening}
 use Rattle.promises.specs.Accepted.{Packet, acceptedOf, packets, since, frames}
 use Rattle.promises.specs.Told.{largest, elicitingOf, among, firstArrival, largestSequence, seenOf, leftArrival, pendingOf, tell, Told}
+use Rattle.receiver.specs.declared.Totals.{Totals}
+use Rattle.promises.specs.Totals.{BelowLimit, AddUp}
+use Rattle.promises.proofs.Totals.{add-up-of}
 use Rattle.promises.proofs.Acceptance.{step-meets}
 use Rattle.promises.proofs.Packets.{none-above}
 use Rattle.promises.proofs.Marks.{told-value, told-number, seen}
-use Rattle.promises.proofs.Along.{agrees, cause-is, seen-is, end-is, sequence-is}
+use Rattle.promises.proofs.Along.{agrees, cause-is, seen-is, end-is, sequence-is, totals-are}
 
 -- of packets of which there is one the first arrival does not depend on what stood before
 first-any : (x y : Micros) (ps : List Packet) → 0 < min (length ps) (2 ^ 62) → firstArrival x ps ≡ firstArrival y ps
@@ -46,9 +50,9 @@ module _ (t q : ℕ) (m : Millis) (u : Micros) (cs : Calls) where
       ap (λ (s : Seen). received s n) (seen-is t q m u cs) ∙ ap (λ (w : ℕ). isSet w (placeOf (largest (packets acc)) n)) (told-value (packets acc))
       ∙ told-number (packets acc) n (omega (arith, le-max-right (after o cs .seen .confirmed) (floorOf (after o cs .seen .end))))
 
-  once : (n : ℕ) (time : Micros) (eliciting marked : Bool) → replied o cs (packet n time eliciting marked) ≡ accepted → among (packets acc) n ≡ false
-  once n time eliciting marked e =
-      let k = step-meets (after o cs) (packet n time eliciting marked) e in
+  once : (n : ℕ) (time : Micros) (eliciting : Bool) (mark : Mark) → replied o cs (packet n time eliciting mark) ≡ accepted → among (packets acc) n ≡ false
+  once n time eliciting mark e =
+      let k = step-meets (after o cs) (packet n time eliciting mark) e in
       split (after o cs .seen .end) n
       (λ h. none-above (packets acc) n (omega (arith, end-is t q m u cs)))
       (λ h. sym (window-is n (k .window) h) ∙ k .fresh h)
@@ -73,3 +77,10 @@ told t q m u cs =
       sequence = sequence-is t q m u cs;
       newest = newest t q m u cs;
     }
+
+-- the totals are those of the accepted packets, so what holds of these holds of them
+pub add-up : AddUp
+add-up t q m u cs b =
+    let e = totals-are t q m u cs in
+    let f = add-up-of (packets (acceptedOf (opening t q m u) cs)) (subst BelowLimit e b) in
+    subst (λ (n : Totals). n .ect0 + n .ect1 + n .ce + n .unmarked ≡ length (packets (acceptedOf (opening t q m u) cs))) (sym e) f

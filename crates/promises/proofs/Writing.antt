@@ -16,4 +16,4 @@ alike (suc refusal) r bytes = refl
 
 pub write-is-step : WriteIsStep
 unfolding step writeAnswer
-write-is-step r time xs = alike (writeRefusal r time (length xs)) r (emitted r time (length xs))
+write-is-step r time kind xs = alike (writeRefusal r time kind (length xs)) r (emitted r time kind (length xs))

@@ -7,14 +7,17 @@ use lib.ListN.{length, take, getD}
 use Rattle.wire.specs.Bytes.{splice}
 use Rattle.wire.specs.Numbers.{encodeAll}
 use Rattle.frames.specs.Ack.{ackNumbers, readAck}
+use Rattle.frames.specs.declared.Tail.{Tail}
 use Rattle.frames.specs.declared.Ack.the-variants.{Frame}
 use Rattle.receiver.specs.declared.Millis.{Millis}
+use Rattle.receiver.specs.declared.Kind.{Kind}
 use Rattle.seen.specs.declared.Micros.{Micros}
 use Rattle.seen.specs.Ack.{ackDelay}
+use Rattle.receiver.specs.Totals.{tailOf}
 use Rattle.receiver.specs.Write.{writeAnswer, writeBytes}
 use Rattle.promises.specs.Sequence.{write, Calls, accepted, after, replied, opening}
 use Rattle.promises.specs.Accepted.{acceptedOf, packets}
-use Rattle.promises.specs.Told.{largest, among, floorIn, seenOf}
+use Rattle.promises.specs.Told.{largest, among, floorIn, seenOf, totalsOf}
 
 -- ---- the runs of the accepted numbers
 
@@ -49,12 +52,16 @@ OneList = (cs : Calls) (a b : ℕ) (xs ys : List ℕ) → MaximalRuns cs a xs �
 
 -- ---- the frame
 
+-- what comes after the ranges of a frame of that type: nothing, or the totals as they stand (02, No. 2)
+abbrev pub tailIn : Kind → Calls → Tail
+tailIn kind cs = tailOf kind (totalsOf (packets cs))
+
 -- the bytes of an ACK frame with the k newest of the runs
-abbrev pub ackOf : ℕ → List ℕ → ℕ → List ℕ
-ackOf delay runs k = encodeAll (ackNumbers delay (take (2 * k) runs))
+abbrev pub ackOf : Tail → ℕ → List ℕ → ℕ → List ℕ
+ackOf tail delay runs k = encodeAll (ackNumbers tail delay (take (2 * k) runs))
 
 -- what bytes, `used` of them the frame, tell of accepted calls, where they were written at a time into a room
-pub record Acknowledges (cs : Calls) (time : Micros) (room : ℕ) (bytes : List ℕ) (used : ℕ) : Type 0 where
+pub record Acknowledges (cs : Calls) (time : Micros) (kind : Kind) (room : ℕ) (bytes : List ℕ) (used : ℕ) : Type 0 where
   pub count : ℕ
   pub runs : List ℕ
   pub maximal : MaximalRuns cs count runs
@@ -62,16 +69,16 @@ pub record Acknowledges (cs : Calls) (time : Micros) (room : ℕ) (bytes : List 
   pub kept : ℕ
   pub first : (0 < kept) × (kept ≤ count)
   -- "as many newest ranges [..] as fit": they fit, and no more of them would
-  pub fits : length (ackOf (ackDelay (seenOf cs) time) runs kept) ≤ room
-  pub most : (k : ℕ) → kept < k → k ≤ count → room < length (ackOf (ackDelay (seenOf cs) time) runs k)
+  pub fits : length (ackOf (tailIn kind cs) (ackDelay (seenOf cs) time) runs kept) ≤ room
+  pub most : (k : ℕ) → kept < k → k ≤ count → room < length (ackOf (tailIn kind cs) (ackDelay (seenOf cs) time) runs k)
   -- "an ACK with largest L, delay one eighth [..] of the microseconds since L arrived" and exactly these runs; zs is a lent slice that has room for them
   pub back : (zs : List ℕ) → 2 * kept ≤ length zs
-      → readAck bytes zs ≡ record { answer = Frame (largest (packets cs) - 1) (ackDelay (seenOf cs) time) kept used; slice = splice zs 0 (take (2 * kept) runs) }
+      → readAck bytes zs ≡ record { answer = Frame (largest (packets cs) - 1) (ackDelay (seenOf cs) time) kept used (tailIn kind cs); slice = splice zs 0 (take (2 * kept) runs) }
 
 -- an accepted write into any lent buffer xs, after any calls from any opening
 abbrev pub Acknowledged : Type 0
 Acknowledged =
-    (t q : ℕ) (maximum : Millis) (minimum : Micros) (cs : Calls) (time : Micros) (xs : List ℕ)
-    → replied (opening t q maximum minimum) cs (write time (length xs)) ≡ accepted
-    → Acknowledges (acceptedOf (opening t q maximum minimum) cs) time (length xs)
-    (writeBytes (after (opening t q maximum minimum) cs) time xs) (writeAnswer (after (opening t q maximum minimum) cs) time xs .length)
+    (t q : ℕ) (maximum : Millis) (minimum : Micros) (cs : Calls) (time : Micros) (kind : Kind) (xs : List ℕ)
+    → replied (opening t q maximum minimum) cs (write time kind (length xs)) ≡ accepted
+    → Acknowledges (acceptedOf (opening t q maximum minimum) cs) time kind (length xs)
+    (writeBytes (after (opening t q maximum minimum) cs) time kind xs) (writeAnswer (after (opening t q maximum minimum) cs) time kind xs .length)

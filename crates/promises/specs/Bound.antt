@@ -45,6 +45,6 @@ WrittenAtMost =
 -- "C counts accepted ack-eliciting packets for which the congestion line holds": the packet rule's own line, on the record that a packet with that mark finds, is the one that C reads
 abbrev pub StartsAsRead : Type 0
 StartsAsRead =
-    (t q : ℕ) (maximum : Millis) (minimum : Micros) (cs : Calls) (marked : Bool)
-    → congestion (after (opening t q maximum minimum) cs) marked
-    ≡ startsCongestion marked (noFrame (frames (acceptedOf (opening t q maximum minimum) cs))) (lastMark (packets (acceptedOf (opening t q maximum minimum) cs)))
+    (t q : ℕ) (maximum : Millis) (minimum : Micros) (cs : Calls) (ce : Bool)
+    → congestion (after (opening t q maximum minimum) cs) ce
+    ≡ startsCongestion ce (noFrame (frames (acceptedOf (opening t q maximum minimum) cs))) (lastMark (packets (acceptedOf (opening t q maximum minimum) cs)))

@@ -9,10 +9,11 @@ use Rattle.receiver.specs.declared.Millis.{Millis}
 use Rattle.seen.specs.declared.Micros.{Micros}
 use Rattle.receiver.specs.Calls.{openCall}
 use Rattle.receiver.specs.Packet.{startsCongestion}
+use Rattle.receiver.specs.Totals.{isCe}
 use Rattle.promises.specs.Sequence.{Call, packet, timer, immediate, threshold, write, confirm, Calls, none, _then_}
-use Rattle.promises.specs.Accepted.{Frame, packets, frames}
+use Rattle.promises.specs.Accepted.{oneIf, Frame, packets, frames}
 use Rattle.promises.specs.Told.{elicitingOf, lastMark, noFrame}
-use Rattle.promises.specs.Passed.{oneIf, passedOver}
+use Rattle.promises.specs.Passed.{passedOver}
 
 -- ---- of the packets
 
@@ -27,11 +28,11 @@ S cs = passedOver (packets cs)
 -- "C starts of congestion marking": "accepted ack-eliciting packets for which the congestion line holds", each after the calls before it
 unfoldable pub C : Calls → ℕ
 C none = 0
-C (cs then packet n time eliciting marked) = C cs + oneIf (eliciting && startsCongestion marked (noFrame (frames cs)) (lastMark (packets cs)))
+C (cs then packet n time eliciting mark) = C cs + oneIf (eliciting && startsCongestion (isCe mark) (noFrame (frames cs)) (lastMark (packets cs)))
 C (cs then timer time) = C cs
 C (cs then immediate) = C cs
 C (cs then threshold sequence t delay q) = C cs
-C (cs then write time room) = C cs
+C (cs then write time kind room) = C cs
 C (cs then confirm k) = C cs
 
 -- ---- of the threshold frames
@@ -61,28 +62,28 @@ howMany test none = 0
 howMany test (cs then c) = howMany test cs + oneIf (test c)
 
 abbrev pub isImmediate : Call → Bool
-isImmediate (packet n time eliciting marked) = false
+isImmediate (packet n time eliciting mark) = false
 isImmediate (timer time) = false
 isImmediate immediate = true
 isImmediate (threshold sequence t delay q) = false
-isImmediate (write time room) = false
+isImmediate (write time kind room) = false
 isImmediate (confirm k) = false
 
 abbrev pub isTimer : Call → Bool
-isTimer (packet n time eliciting marked) = false
+isTimer (packet n time eliciting mark) = false
 isTimer (timer time) = true
 isTimer immediate = false
 isTimer (threshold sequence t delay q) = false
-isTimer (write time room) = false
+isTimer (write time kind room) = false
 isTimer (confirm k) = false
 
 -- a call to write an acknowledgment; it is written where the call is accepted
 abbrev pub isWrite : Call → Bool
-isWrite (packet n time eliciting marked) = false
+isWrite (packet n time eliciting mark) = false
 isWrite (timer time) = false
 isWrite immediate = false
 isWrite (threshold sequence t delay q) = false
-isWrite (write time room) = true
+isWrite (write time kind room) = true
 isWrite (confirm k) = false
 
 -- "I accepted IMMEDIATE_ACK frames and D timer calls"

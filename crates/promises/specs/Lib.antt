@@ -4,6 +4,7 @@ pub mod Kept
 pub mod Unchanged
 pub mod Told
 pub mod Floor
+pub mod Totals
 pub mod Replies
 pub mod Acknowledged
 pub mod Order

@@ -27,11 +27,11 @@ sameR opened old new = eqb (rInForce opened new) (rInForce opened old)
 -- the packets accepted since R last changed, all of them where it never did; a frame that brings the same R does not start anew
 unfoldable pub underSameR : Receiver → Calls → List Packet
 underSameR opened none = []
-underSameR opened (cs then packet n time eliciting marked) = packetOf n time eliciting marked ∷ underSameR opened cs
+underSameR opened (cs then packet n time eliciting mark) = packetOf n time eliciting mark ∷ underSameR opened cs
 underSameR opened (cs then timer time) = underSameR opened cs
 underSameR opened (cs then immediate) = underSameR opened cs
 underSameR opened (cs then threshold s t d q) = pick (sameR opened cs (cs then threshold s t d q)) (underSameR opened cs) []
-underSameR opened (cs then write time room) = underSameR opened cs
+underSameR opened (cs then write time kind room) = underSameR opened cs
 underSameR opened (cs then confirm k) = underSameR opened cs
 
 -- ---- "one has been written whose largest number is"
@@ -39,11 +39,11 @@ underSameR opened (cs then confirm k) = underSameR opened cs
 -- the end of the largest number that any written ACK had: of each it was L then
 unfoldable pub writtenUpTo : Calls → ℕ
 writtenUpTo none = 0
-writtenUpTo (cs then packet n time eliciting marked) = writtenUpTo cs
+writtenUpTo (cs then packet n time eliciting mark) = writtenUpTo cs
 writtenUpTo (cs then timer time) = writtenUpTo cs
 writtenUpTo (cs then immediate) = writtenUpTo cs
 writtenUpTo (cs then threshold s t d q) = writtenUpTo cs
-writtenUpTo (cs then write time room) = max (writtenUpTo cs) (largest (packets cs))
+writtenUpTo (cs then write time kind room) = max (writtenUpTo cs) (largest (packets cs))
 writtenUpTo (cs then confirm k) = writtenUpTo cs
 
 -- ---- the statement

@@ -5,6 +5,7 @@ use mathlib.Core.Bool.{Bool, true, false}
 use mathlib.Core.List.{List, [], _∷_}
 use lib.Dec.{leb, ltb}
 use Rattle.receiver.specs.declared.Receiver.{Receiver}
+use Rattle.receiver.specs.declared.Mark.the-variants.{None}
 use Rattle.promises.specs.Sequence.{Call, packet, confirm, Calls, none, inOrder, after}
 use Rattle.promises.specs.Accepted.{acceptedOf, packets}
 use Rattle.promises.specs.Told.{largest, elicitingOf, among, floorIn}
@@ -36,7 +37,7 @@ pub record Cases : Type 0 where
   -- then it is written: nothing is due, and the ACK's largest number is 4
   pub behind : Shows 3 (arrives 0 ∷ arrives 4 ∷ writes ∷ []) 1 true 3 4 true 0 5
   -- 4, not ack-eliciting, is the largest number of the ACK, and 1 + 3 was reported by it: 5 is not due
-  pub either : Shows 3 (arrives 0 ∷ arrives 2 ∷ arrives 3 ∷ packet 4 start false false ∷ writes ∷ arrives 5 ∷ []) 1 true 3 5 true 0 5
+  pub either : Shows 3 (arrives 0 ∷ arrives 2 ∷ arrives 3 ∷ packet 4 start false None ∷ writes ∷ arrives 5 ∷ []) 1 true 3 5 true 0 5
   -- R 3, then 3 again: 4 still counts
   pub repeated : Shows 3 (arrives 0 ∷ arrives 4 ∷ asks 0 3 ∷ []) 1 true 3 4 true 3 0
   -- once the sender has confirmed that ACK, 1 is no window number any more
@@ -52,4 +53,4 @@ pub record Cases : Type 0 where
   -- R 1 (RFC 9000's rule) looks between the earlier H and the packet: 1 was passed over under R 0, 3 comes under R 1, and 1 + 1 is reached
   pub one : Shows 0 (arrives 0 ∷ arrives 2 ∷ asks 0 1 ∷ arrives 3 ∷ []) 1 true 1 3 true 0 0
   -- a packet that is not ack-eliciting does not count
-  pub plain : Shows 3 (arrives 0 ∷ packet 4 start false false ∷ []) 1 true 3 4 false 0 0
+  pub plain : Shows 3 (arrives 0 ∷ packet 4 start false None ∷ []) 1 true 3 4 false 0 0

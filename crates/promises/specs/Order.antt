@@ -11,6 +11,9 @@ use Rattle.seen.specs.declared.Micros.{Micros}
 use Rattle.receiver.specs.declared.Receiver.{Receiver}
 use Rattle.seen.specs.Received.{isAny}
 use Rattle.receiver.specs.Packet.{order}
+use Rattle.receiver.specs.declared.Mark.{Mark}
+use Rattle.receiver.specs.declared.Mark.the-variants.{None}
+use Rattle.receiver.specs.declared.Kind.the-variants.{Plain}
 use Rattle.promises.specs.Sequence.{packet, write, Calls, none, _then_, accepted, after, replied, opening}
 use Rattle.promises.specs.Accepted.{Packet, packets}
 use Rattle.promises.specs.Told.{largest, among, floorIn, seenOf}
@@ -45,10 +48,10 @@ InNumbers = (cs : Calls) (r n highest acknowledged end : ℕ) → order (seenOf 
 -- "U - m >= R" asked of H instead: for an accepted ack-eliciting packet after any calls from an opening the line says the same. `old` and `new` are the records before and after it.
 abbrev pub SameByHighest : Type 0
 SameByHighest =
-    (t q : ℕ) (maximum : Millis) (minimum : Micros) (cs : Calls) (n : ℕ) (time : Micros) (marked : Bool)
-    → replied (opening t q maximum minimum) cs (packet n time true marked) ≡ accepted
+    (t q : ℕ) (maximum : Millis) (minimum : Micros) (cs : Calls) (n : ℕ) (time : Micros) (mark : Mark)
+    → replied (opening t q maximum minimum) cs (packet n time true mark) ≡ accepted
     → let old = after (opening t q maximum minimum) cs in
-    let new = after (opening t q maximum minimum) (cs then packet n time true marked) in
+    let new = after (opening t q maximum minimum) (cs then packet n time true mark) in
     order (new .seen) (old .agreed .reordering) n (old .highest) (old .acknowledged) (new .highest)
     ≡ order (new .seen) (old .agreed .reordering) n (old .highest) (old .acknowledged) (new .pending .end)
 
@@ -57,7 +60,7 @@ abbrev pub apart : Receiver
 apart =
     let start : Micros = record { 0 = 0 } in
     after (opening 1 1 (record { 0 = 25 }) (record { 0 = 1000 }))
-    (none then packet 0 start true false then packet 2 start true false then write start 64 then packet 1 start true false)
+    (none then packet 0 start true None then packet 2 start true None then write start Plain 64 then packet 1 start true None)
 
 -- and yet the two may be apart: then U is 1 and H is 2
 pub record Apart : Type 0 where

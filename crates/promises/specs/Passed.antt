@@ -4,13 +4,8 @@ use mathlib.Core.Path.{_≡_}
 use mathlib.Core.Bool.{Bool, true, false, not, _&&_, _||_}
 use mathlib.Core.List.{List, [], _∷_}
 use lib.Dec.{ltb}
-use Rattle.promises.specs.Accepted.{Packet}
+use Rattle.promises.specs.Accepted.{Packet, oneIf}
 use Rattle.promises.specs.Told.{largest, among}
-
--- 1 where a test holds, 0 where it does not
-abbrev pub oneIf : Bool → ℕ
-oneIf true = 1
-oneIf false = 0
 
 -- how many of the numbers 0, 1, .., n - 1 pass a test
 unfoldable pub count : (ℕ → Bool) → ℕ → ℕ

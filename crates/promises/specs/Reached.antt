@@ -6,6 +6,8 @@ use mathlib.Core.List.{List, [], _∷_}
 use Rattle.receiver.specs.declared.Millis.{Millis}
 use Rattle.seen.specs.declared.Micros.{Micros}
 use Rattle.receiver.specs.declared.Receiver.{Receiver}
+use Rattle.receiver.specs.declared.Mark.the-variants.{None, Ce}
+use Rattle.receiver.specs.declared.Kind.the-variants.{Plain}
 use Rattle.promises.specs.Sequence.{Call, packet, timer, immediate, threshold, write, confirm, Calls, none, inOrder, opening}
 use Rattle.promises.specs.Accepted.{acceptedOf}
 use Rattle.promises.specs.Counted.{E, S, F, C, I, D, W, openingT}
@@ -49,11 +51,11 @@ start = record { 0 = 0 }
 
 -- packet n, ack-eliciting, without CE
 abbrev pub arrives : ℕ → Call
-arrives n = packet n start true false
+arrives n = packet n start true None
 
 -- a write in room 64
 abbrev pub writes : Call
-writes = write start 64
+writes = write start Plain 64
 
 -- n packets from number m on, and a write after each
 unfoldable pub eachWritten : ℕ → ℕ → List Call
@@ -62,7 +64,7 @@ eachWritten (suc n) m = arrives m ∷ writes ∷ eachWritten n (suc m)
 
 -- nothing was agreed: each of two packets with CE is due
 abbrev pub eachMark : List Call
-eachMark = packet 0 start true true ∷ writes ∷ packet 1 start true true ∷ writes ∷ []
+eachMark = packet 0 start true Ce ∷ writes ∷ packet 1 start true Ce ∷ writes ∷ []
 
 -- five packets exceed T 4; 6 passes 5 over; 5 comes late; 7 has CE; 8 waits for the timer; IMMEDIATE_ACK
 abbrev pub everyCause : List Call
@@ -70,7 +72,7 @@ everyCause =
     arrives 0 ∷ arrives 1 ∷ arrives 2 ∷ arrives 3 ∷ arrives 4 ∷ writes
     ∷ arrives 6 ∷ writes
     ∷ arrives 5 ∷ writes
-    ∷ packet 7 start true true ∷ writes
+    ∷ packet 7 start true Ce ∷ writes
     ∷ arrives 8 ∷ timer (record { 0 = 25000 }) ∷ writes
     ∷ immediate ∷ writes
     ∷ []
@@ -80,8 +82,8 @@ abbrev pub someRefused : List Call
 someRefused =
     threshold 5 1 (record { 0 = 25000 }) 1 ∷ threshold 5 0 (record { 0 = 25000 }) 1
     ∷ arrives 0 ∷ arrives 1 ∷ writes
-    ∷ arrives 2 ∷ arrives 2 ∷ write start 1
-    ∷ packet 3 start false true
+    ∷ arrives 2 ∷ arrives 2 ∷ write start Plain 1
+    ∷ packet 3 start false Ce
     ∷ []
 
 -- frame number n asks for R = q, with T 9

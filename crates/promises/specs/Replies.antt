@@ -11,16 +11,17 @@ use Rattle.seen.specs.declared.Micros.{Micros}
 use Rattle.receiver.specs.declared.Receiver.{Receiver}
 use Rattle.seen.specs.Numbers.{small}
 use Rattle.seen.specs.Received.{reported}
+use Rattle.receiver.specs.Totals.{tailOf}
 use Rattle.receiver.specs.Record.{delayRule}
 use Rattle.seen.specs.Ack.{frame, ackDelay}
 use Rattle.receiver.specs.Exactly.{row, first, verdictOf}
 use Rattle.promises.specs.Sequence.{Call, packet, timer, immediate, threshold, write, confirm, Calls, none, _then_, Reply, replyOf, replyTo, replied, opening}
 use Rattle.promises.specs.Accepted.{joined, acceptedOf, packets, before, frames}
-use Rattle.promises.specs.Told.{largest, among, largestSequence, floorIn, seenOf}
+use Rattle.promises.specs.Told.{largest, among, largestSequence, floorIn, seenOf, totalsOf}
 
 -- the rows that concern a call after accepted calls; 1 never comes, and stale comes after every refusal
 unfoldable pub replyAfter : Receiver → Calls → Call → Reply
-replyAfter opened cs (packet n time eliciting marked) =
+replyAfter opened cs (packet n time eliciting mark) =
     replyOf
     (first
     (row 5 (not (small n && small (time .0)))
@@ -33,12 +34,12 @@ replyAfter opened cs (threshold s t d q) =
     replyTo
     (verdictOf (first (row 5 (not (small s && (small t && (small (d .0) && small q)))) ∷ row 4 (not (delayRule (opened .limits) d)) ∷ []))
     (ltb s (largestSequence (frames cs))))
-replyAfter opened cs (write time room) =
+replyAfter opened cs (write time kind room) =
     replyOf
     (first
     (row 5 (not (small (time .0)))
     ∷ row 8 (eqb (largest (packets cs)) 0)
-    ∷ row 9 (ltb room (length (frame (reported (seenOf cs)) (ackDelay (seenOf cs) time) 1)))
+    ∷ row 9 (ltb room (length (frame (reported (seenOf cs)) (tailOf kind (totalsOf (packets cs))) (ackDelay (seenOf cs) time) 1)))
     ∷ []))
 replyAfter opened cs (confirm k) =
     replyOf (first (row 5 (not (small k)) ∷ row 8 (eqb (largest (packets cs)) 0) ∷ row 19 (leb (largest (before cs)) k) ∷ []))

@@ -6,6 +6,8 @@ use mathlib.Core.List.{List, [], _∷_}
 use lib.ListN.{length}
 use Rattle.receiver.specs.declared.Millis.{Millis}
 use Rattle.seen.specs.declared.Micros.{Micros}
+use Rattle.receiver.specs.declared.Mark.{Mark}
+use Rattle.receiver.specs.declared.Kind.{Kind}
 use Rattle.receiver.specs.declared.Receiver.{Receiver}
 use Rattle.receiver.specs.declared.Verdict.{Verdict}
 use Rattle.receiver.specs.declared.Verdict.the-variants.{Accepted, Stale, Refused}
@@ -14,13 +16,13 @@ use Rattle.receiver.specs.Calls.{openCall, timerCall, immediateCall, thresholdC
 use Rattle.receiver.specs.Confirm.{confirmCall}
 use Rattle.receiver.specs.Write.{writeRefusal, answered, writeAnswer}
 
--- a call and its arguments; of a write's lent buffer only the length, the room, matters to the record
+-- a call and its arguments; a write is of the type that its caller chose (02, No. 2), and of its lent buffer only the length, the room, matters to the record
 pub data Call : Type 0 where
-  packet : ℕ → Micros → Bool → Bool → Call
+  packet : ℕ → Micros → Bool → Mark → Call
   timer : Micros → Call
   immediate : Call
   threshold : ℕ → ℕ → Micros → ℕ → Call
-  write : Micros → ℕ → Call
+  write : Micros → Kind → ℕ → Call
   confirm : ℕ → Call
 
 -- what a call is answered: "stale" is an answer of its own, neither accepted nor refused
@@ -44,21 +46,21 @@ replyTo (Refused k) = refused k
 
 -- one call on a record
 unfoldable pub step : Receiver → Call → Outcome
-step r (packet n time eliciting marked) =
-    record { reply = replyOf (packetCall r n time eliciting marked .result); next = packetCall r n time eliciting marked .next }
+step r (packet n time eliciting mark) =
+    record { reply = replyOf (packetCall r n time eliciting mark .result); next = packetCall r n time eliciting mark .next }
 step r (timer time) = record { reply = replyOf (timerCall r time .result); next = timerCall r time .next }
 step r immediate = record { reply = replyOf (immediateCall r .result); next = immediateCall r .next }
 step r (threshold sequence t delay q) =
     record { reply = replyTo (thresholdCall r sequence t delay q .verdict); next = thresholdCall r sequence t delay q .next }
-step r (write time room) =
-    record { reply = replyOf (answered (writeRefusal r time room) r [] .result); next = answered (writeRefusal r time room) r [] .next }
+step r (write time kind room) =
+    record { reply = replyOf (answered (writeRefusal r time kind room) r [] .result); next = answered (writeRefusal r time kind room) r [] .next }
 step r (confirm k) = record { reply = replyOf (confirmCall r k .result); next = confirmCall r k .next }
 
 -- the line of a write is what the write call answers, whatever the lent buffer holds
 abbrev pub WriteIsStep : Type 0
 WriteIsStep =
-    (r : Receiver) (time : Micros) (xs : List ℕ)
-    → step r (write time (length xs)) ≡ record { reply = replyOf (writeAnswer r time xs .result); next = writeAnswer r time xs .next }
+    (r : Receiver) (time : Micros) (kind : Kind) (xs : List ℕ)
+    → step r (write time kind (length xs)) ≡ record { reply = replyOf (writeAnswer r time kind xs .result); next = writeAnswer r time kind xs .next }
 
 -- calls in their order: none yet, or some and then one more
 infixl 20 _then_

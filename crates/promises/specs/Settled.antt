@@ -5,6 +5,7 @@ use lib.ListN.{replicate}
 use Rattle.wire.specs.Numbers.{widthOf}
 use Rattle.frames.specs.Frequency.{readFrequency}
 use Rattle.frames.specs.declared.Frequency.the-variants.{Frame}
+use Rattle.receiver.specs.declared.Kind.the-variants.{Plain}
 use Rattle.receiver.specs.Write.{writeBytes}
 use Rattle.receiver.specs.Examples.{started, arrival, dues}
 use Rattle.receiver.specs.Settled.{five, atOnce, inRoom}
@@ -23,15 +24,15 @@ pub record Settled : Type 0 where
   -- "R 5, arrivals 0, 1, 3, 5, 6, 7, 8: due at 7 only"
   pub P5 : dues (started 5) (0 ∷ 1 ∷ 3 ∷ 5 ∷ 6 ∷ 7 ∷ 8 ∷ []) ≡ 7 ∷ []
   -- "0, 1, 3, 4, 5 received, no delay: 02 05 00 01 02 00 01"
-  pub P6 : writeBytes five atOnce (replicate 7 0) ≡ 0x02 ∷ 0x05 ∷ 0x00 ∷ 0x01 ∷ 0x02 ∷ 0x00 ∷ 0x01 ∷ []
+  pub P6 : writeBytes five atOnce Plain (replicate 7 0) ≡ 0x02 ∷ 0x05 ∷ 0x00 ∷ 0x01 ∷ 0x02 ∷ 0x00 ∷ 0x01 ∷ []
   pub P6-answer : (inRoom 7 .result ≡ 0) × (inRoom 7 .length ≡ 7)
   -- "the same in room 5 or 6: 02 05 00 00 02; room 4: refusal 9"
-  pub P7-five : writeBytes five atOnce (replicate 5 0) ≡ 0x02 ∷ 0x05 ∷ 0x00 ∷ 0x00 ∷ 0x02 ∷ []
+  pub P7-five : writeBytes five atOnce Plain (replicate 5 0) ≡ 0x02 ∷ 0x05 ∷ 0x00 ∷ 0x00 ∷ 0x02 ∷ []
   pub P7-five-answer : (inRoom 5 .result ≡ 0) × (inRoom 5 .length ≡ 5)
-  pub P7-six : writeBytes five atOnce (replicate 6 0xff) ≡ 0x02 ∷ 0x05 ∷ 0x00 ∷ 0x00 ∷ 0x02 ∷ 0xff ∷ []
+  pub P7-six : writeBytes five atOnce Plain (replicate 6 0xff) ≡ 0x02 ∷ 0x05 ∷ 0x00 ∷ 0x00 ∷ 0x02 ∷ 0xff ∷ []
   pub P7-six-answer : (inRoom 6 .result ≡ 0) × (inRoom 6 .length ≡ 5)
   pub P7-four : inRoom 4 .result ≡ 9
-  pub P7-four-answer : (inRoom 4 .length ≡ 0) × (writeBytes five atOnce (replicate 4 0) ≡ replicate 4 0)
+  pub P7-four-answer : (inRoom 4 .length ≡ 0) × (writeBytes five atOnce Plain (replicate 4 0) ≡ replicate 4 0)
   -- "at L 1,023 number 0 is in the window; at 1,024 it gives 7"
   pub P8-in : arrival (arrival (started 3) 1023 .next) 0 .result ≡ 0
   pub P8-below : arrival (arrival (started 3) 1024 .next) 0 .result ≡ 7

@@ -7,17 +7,21 @@ use mathlib.Core.List.{List, [], _∷_}
 use lib.Dec.{leb, ltb, eqb}
 use lib.ListN.{length}
 use Rattle.wire.specs.Bytes.{pick}
+use Rattle.wire.specs.Numbers.{limit}
 use Rattle.window.specs.Window.{places, windowOf, withBit}
 use Rattle.receiver.specs.declared.Millis.{Millis}
 use Rattle.seen.specs.declared.Micros.{Micros}
 use Rattle.seen.specs.declared.Seen.{Seen}
 use Rattle.receiver.specs.declared.Pending.{Pending}
 use Rattle.receiver.specs.declared.Agreed.{Agreed}
+use Rattle.receiver.specs.declared.Mark.{Mark}
+use Rattle.receiver.specs.declared.Totals.{Totals}
 use Rattle.receiver.specs.declared.Receiver.{Receiver}
+use Rattle.receiver.specs.Totals.{isCe, isEct0, isEct1, isNone}
 use Rattle.seen.specs.Received.{floor, floorOf, received}
 use Rattle.seen.specs.Ack.{numberAt}
 use Rattle.promises.specs.Sequence.{packet, timer, immediate, threshold, write, confirm, Calls, none, _then_, accepted, after, replied, opening}
-use Rattle.promises.specs.Accepted.{Packet, Frame, acceptedOf, packets, since, before, frames}
+use Rattle.promises.specs.Accepted.{Packet, Frame, oneIf, acceptedOf, packets, since, before, frames}
 
 -- ---- of a list of packets
 
@@ -49,7 +53,20 @@ firstArrival other (p ∷ ps) = firstArrival (p .time) ps
 -- the last one's CE mark
 unfoldable pub lastMark : List Packet → Bool
 lastMark [] = false
-lastMark (p ∷ ps) = p .marked
+lastMark (p ∷ ps) = isCe (p .mark)
+
+-- how many carried a mark for which the test holds
+unfoldable pub howOften : (Mark → Bool) → List Packet → ℕ
+howOften test [] = 0
+howOften test (p ∷ ps) = howOften test ps + oneIf (test (p .mark))
+
+-- "Each total is defined from the list of accepted packets" (02, No. 2), of both kinds; "A total stays at 2^62 - 1"
+abbrev pub totalOf : (Mark → Bool) → List Packet → ℕ
+totalOf test ps = min (howOften test ps) limit
+
+-- "totals of accepted packets marked ECT(0), ECT(1) and CE, and of unmarked ones"
+unfoldable pub totalsOf : List Packet → Totals
+totalsOf ps = record { ect0 = totalOf isEct0 ps; ect1 = totalOf isEct1 ps; ce = totalOf isCe ps; unmarked = totalOf isNone ps }
 
 -- ---- the window of "the last 1,024 numbers"
 
@@ -88,11 +105,11 @@ inForce opened (f ∷ fs) = pick (ltb (f .sequence) (largestSequence fs)) (inFor
 -- the record's own floor: each confirmation raises it "to k + 1, or to L where k is L" (02, No. 12), L being the largest number accepted until then
 unfoldable pub confirmedOf : Calls → ℕ
 confirmedOf none = 0
-confirmedOf (cs then packet n time eliciting marked) = confirmedOf cs
+confirmedOf (cs then packet n time eliciting mark) = confirmedOf cs
 confirmedOf (cs then timer time) = confirmedOf cs
 confirmedOf (cs then immediate) = confirmedOf cs
 confirmedOf (cs then threshold s t d q) = confirmedOf cs
-confirmedOf (cs then write time room) = confirmedOf cs
+confirmedOf (cs then write time kind room) = confirmedOf cs
 confirmedOf (cs then confirm k) = max (confirmedOf cs) (min (k + 1) (largest (packets cs) - 1))
 
 -- the floor in use: "the larger of it and the window's own floor"
@@ -106,11 +123,11 @@ seenOf cs = record { window = windowOf (marks (isMarked (packets cs)) places); e
 -- the first arrival as the last written ACK left it: it means nothing until an ack-eliciting packet comes
 unfoldable pub leftArrival : Calls → Micros
 leftArrival none = record { 0 = 0 }
-leftArrival (cs then packet n time eliciting marked) = leftArrival cs
+leftArrival (cs then packet n time eliciting mark) = leftArrival cs
 leftArrival (cs then timer time) = leftArrival cs
 leftArrival (cs then immediate) = leftArrival cs
 leftArrival (cs then threshold s t d q) = leftArrival cs
-leftArrival (cs then write time room) = firstArrival (leftArrival cs) (elicitingOf (since cs))
+leftArrival (cs then write time kind room) = firstArrival (leftArrival cs) (elicitingOf (since cs))
 leftArrival (cs then confirm k) = leftArrival cs
 
 -- N ("At 2^62, N stays"), U, and the first arrival
@@ -123,7 +140,7 @@ pendingOf cs =
     }
 
 -- the record that the accepted calls tell, with a cause: L, the window and the floor; N, U and the first arrival; T, R, delay and sequence in force;
--- the own limits; A, which was L at the last written ACK; H; the last packet's CE mark
+-- the own limits; A, which was L at the last written ACK; H; the last packet's CE mark; the totals
 abbrev pub tell : Receiver → Calls → ℕ → Receiver
 tell opened cs cause =
     record {
@@ -135,6 +152,7 @@ tell opened cs cause =
       highest = largest (elicitingOf (packets cs));
       ce = pick (lastMark (packets cs)) 1 0;
       cause = cause;
+      totals = totalsOf (packets cs);
     }
 
 -- ---- the theorem
@@ -147,7 +165,7 @@ pub record Tells (opened : Receiver) (cs : Calls) : Type 0 where
   pub window : (n : ℕ) → floor (after opened cs .seen) ≤ n → n < after opened cs .seen .end
       → received (after opened cs .seen) n ≡ among (packets (acceptedOf opened cs)) n
   -- no number is accepted twice
-  pub once : (n : ℕ) (time : Micros) (eliciting marked : Bool) → replied opened cs (packet n time eliciting marked) ≡ accepted
+  pub once : (n : ℕ) (time : Micros) (eliciting : Bool) (mark : Mark) → replied opened cs (packet n time eliciting mark) ≡ accepted
       → among (packets (acceptedOf opened cs)) n ≡ false
   -- where N is above 0 the first arrival is that of the packets since the last written ACK, whatever stood before
   pub first : (other : Micros) → 0 < after opened cs .pending .count

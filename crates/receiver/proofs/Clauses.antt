@@ -8,7 +8,8 @@ use native.Mathlib.Omega.{arith}
 use borrow.Author.Tests.{ltb-true, leb-true, eqb-true, eqb-false, lt-ltb, le-leb, eq-eqb, ne-eqb, not-true}
 use lib.Dec.{leb, ltb, eqb}
 use Rattle.wire.specs.Bytes.{pick}
-use Rattle.wire.specs.Numbers.{limit}
+use Rattle.wire.specs.Numbers.{limit, allSmall}
+use Rattle.frames.specs.Ack.{countsOf}
 use Rattle.window.specs.Window.{valueOf, isSet, noneBelow}
 use Rattle.window.proofs.Laws.{none-says, none-is}
 use Rattle.receiver.specs.declared.Receiver.{Receiver}
@@ -17,6 +18,9 @@ use Rattle.receiver.specs.declared.Limits.{Limits}
 use Rattle.receiver.specs.declared.Pending.{Pending}
 use Rattle.seen.specs.Numbers.{small, smallEnd}
 use Rattle.seen.specs.Received.{seenConsistent, floorFits, numbersObey, marksConsistent}
+use Rattle.receiver.specs.declared.Kind.{Kind}
+use Rattle.receiver.specs.declared.Kind.the-variants.{Plain, Counts as WithCounts}
+use Rattle.receiver.specs.Totals.{totalsConsistent, tailOf}
 use Rattle.receiver.specs.Record.{limitsRule, delayRule, pendingConsistent, agreedConsistent, consistent, microsOf}
 use Rattle.receiver.specs.Consistent.{Consistent, ConsistentExactly}
 
@@ -32,21 +36,20 @@ right false b e = let z : _≡_ {A = ℕ} 0 1 = cc in absurd (omega arith)
 join : {a b : Bool} → a ≡ true → b ≡ true → (a && b) ≡ true
 join e f = rw (e, f)
 
--- four tests in a row, and seven
+-- four tests in a row, and eight
 four : (a b c d : Bool) → (a && (b && (c && d))) ≡ true → (a ≡ true) × (b ≡ true) × (c ≡ true) × (d ≡ true)
 four a b c d e =
     let f = right a (b && (c && d)) e in
     let g = right b (c && d) f in
     (left a (b && (c && d)) e, left b (c && d) f, left c d g, right c d g)
 
-seven : (a b c d x y z : Bool) → (a && (b && (c && (d && (x && (y && z)))))) ≡ true
-    → (a ≡ true) × (b ≡ true) × (c ≡ true) × (d ≡ true) × (x ≡ true) × (y ≡ true) × (z ≡ true)
-seven a b c d x y z e =
-    let f = right a (b && (c && (d && (x && (y && z))))) e in
-    let g = right b (c && (d && (x && (y && z)))) f in
-    let h = right c (d && (x && (y && z))) g in
-    let k = four d x y z h in
-    (left a (b && (c && (d && (x && (y && z))))) e, left b (c && (d && (x && (y && z)))) f, left c (d && (x && (y && z))) g, k .0, k .1, k .2, k .3)
+eight : (a b c d w x y z : Bool) → (a && (b && (c && (d && (w && (x && (y && z))))))) ≡ true
+    → (a ≡ true) × (b ≡ true) × (c ≡ true) × (d ≡ true) × (w ≡ true) × (x ≡ true) × (y ≡ true) × (z ≡ true)
+eight a b c d w x y z e =
+    let f = four a b c (d && (w && (x && (y && z)))) e in
+    let g = right d (w && (x && (y && z))) (f .3) in
+    let k = four w x y z g in
+    (f .0, f .1, f .2, left d (w && (x && (y && z))) (f .3), k .0, k .1, k .2, k .3)
 
 one-more : (n : ℕ) → eqb (suc n) 0 ≡ false
 one-more n = ne-eqb (suc n) 0 (λ e. omega arith)
@@ -86,13 +89,13 @@ own-is zero b f = refl
 own-is (suc e) b f = rw (one-more e) (f (omega arith))
 
 says : (r : Receiver) → consistent r ≡ true → Consistent r
-unfolding consistent seenConsistent pendingConsistent agreedConsistent limitsRule delayRule
+unfolding consistent seenConsistent pendingConsistent agreedConsistent totalsConsistent limitsRule delayRule
 says r e =
     let s : Seen = r .seen in
     let p : Pending = r .pending in
     let w : ℕ = valueOf (s .window) in
     let k =
-    seven (seenConsistent s) (pendingConsistent p (s .end)) (limitsRule (r .limits)) (agreedConsistent (r .agreed) (r .limits)) (leb (r .acknowledged) (s .end)) (leb (r .highest) (s .end))
+    eight (seenConsistent s) (pendingConsistent p (s .end)) (limitsRule (r .limits)) (agreedConsistent (r .agreed) (r .limits)) (totalsConsistent (r .totals)) (leb (r .acknowledged) (s .end)) (leb (r .highest) (s .end))
     (pick (eqb (s .end) 0) (eqb (r .cause) 0) (leb (r .cause) 5)) e in
     let kn = left (numbersObey s) (marksConsistent s) (k .0) in
     let ks = right (smallEnd (s .end)) (small (s .arrived .0) && floorFits s) kn in
@@ -101,7 +104,8 @@ says r e =
     let ka = four (small (r .agreed .threshold)) (small (r .agreed .reordering)) (smallEnd (r .agreed .sequence)) (delayRule (r .limits) (r .agreed .delay)) (k .3) in
     let m : Bool = leb (r .limits .minimum .0) (microsOf (r .limits .maximum) .0) in
     let d : Bool = leb (r .limits .minimum .0) (r .agreed .delay .0) in
-    let kc = cause-says (s .end) (r .cause) (k .6) in
+    let kt = four (small (r .totals .ect0)) (small (r .totals .ect1)) (small (r .totals .ce)) (small (r .totals .unmarked)) (k .4) in
+    let kc = cause-says (s .end) (r .cause) (k .7) in
     record {
       largest = leb-true _ _ (left (smallEnd (s .end)) (small (s .arrived .0) && floorFits s) kn);
       arrived = leb-true _ _ (left (small (s .arrived .0)) (floorFits s) ks);
@@ -115,13 +119,14 @@ says r e =
       delay = ltb-true _ _ (left (ltb (r .agreed .delay .0) 16384000) d (ka .3));
       least = leb-true _ _ (right (ltb (r .agreed .delay .0) 16384000) d (ka .3));
       cause = kc .0;
-      acknowledged = leb-true _ _ (k .4);
-      highest = leb-true _ _ (k .5);
+      acknowledged = leb-true _ _ (k .5);
+      highest = leb-true _ _ (k .6);
       unacknowledged = leb-true _ _ (kp .2);
       absent = absent-says (p .count) (p .end) (kp .3);
       own = own-says (s .end) (isSet w 1023) (right (noneBelow (1024 - s .end) w) (eqb (s .end) 0 || isSet w 1023) km);
       below = none-says (1024 - s .end) w (left (noneBelow (1024 - s .end) w) (eqb (s .end) 0 || isSet w 1023) km);
       floor = leb-true _ _ (right (small (s .arrived .0)) (floorFits s) ks);
+      totals = (leb-true _ _ (kt .0), leb-true _ _ (kt .1), leb-true _ _ (kt .2), leb-true _ _ (kt .3));
       nothing = kc .1;
     }
 
@@ -149,6 +154,20 @@ pending-holds r k =
     let p : Pending = r .pending in
     join (le-leb (p .count) (limit + 1) (k .count)) (join (le-leb _ _ (k .first)) (join (le-leb _ _ (k .unacknowledged)) (absent-is (p .count) (p .end) (k .absent))))
 
+pub totals-hold : (r : Receiver) → Consistent r → totalsConsistent (r .totals) ≡ true
+unfolding totalsConsistent
+totals-hold r k =
+    let t = k .totals in
+    join (le-leb _ _ (t .0)) (join (le-leb _ _ (t .1)) (join (le-leb _ _ (t .2)) (le-leb _ _ (t .3))))
+
+-- so the counts of an ACK obey 5
+pub counts-hold : (r : Receiver) (kind : Kind) → consistent r ≡ true → allSmall (countsOf (tailOf kind (r .totals))) ≡ true
+unfolding allSmall
+counts-hold r Plain e = refl
+counts-hold r WithCounts e =
+    let t = says r e .totals in
+    rw (le-leb (r .totals .ect0) limit (t .0), le-leb (r .totals .ect1) limit (t .1), le-leb (r .totals .ce) limit (t .2))
+
 is : (r : Receiver) → Consistent r → consistent r ≡ true
 unfolding consistent seenConsistent
 is r k =
@@ -156,7 +175,8 @@ is r k =
     (join (pending-holds r k)
     (join (limits-hold r k)
     (join (agreed-holds r k)
-    (join (le-leb _ _ (k .acknowledged)) (join (le-leb _ _ (k .highest)) (cause-is (r .seen .end) (r .cause) (k .cause) (k .nothing)))))))
+    (join (totals-hold r k)
+    (join (le-leb _ _ (k .acknowledged)) (join (le-leb _ _ (k .highest)) (cause-is (r .seen .end) (r .cause) (k .cause) (k .nothing))))))))
 
 pub consistent-exactly : ConsistentExactly
 consistent-exactly r = (says r, is r)

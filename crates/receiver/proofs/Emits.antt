@@ -16,12 +16,15 @@ use Rattle.seen.specs.Ack.{ackDelay, frame, ackRefusal, ackFrame, acked, laid, 
 use Rattle.seen.proofs.Tests.{by-test}
 use Rattle.seen.proofs.Emits.{frame-fits, laid-long, laid-stays, ack-read-back}
 use Rattle.receiver.specs.declared.Receiver.{Receiver}
+use Rattle.frames.specs.declared.Tail.{Tail}
+use Rattle.receiver.specs.declared.Kind.{Kind}
+use Rattle.receiver.specs.Totals.{tailOf}
 use Rattle.receiver.specs.Record.{restConsistent, consistent}
 use Rattle.receiver.specs.Consistent.{Consistent}
 use Rattle.receiver.specs.Exactly.{first}
 use Rattle.receiver.specs.Write.{writeRefusal, afterWrite, emitted, answered, writeAnswer, writeBytes}
 use Rattle.receiver.specs.Emits.{WriteReadBack, writeRows, WriteExactly, WriteLeaves, WriteKeeps}
-use Rattle.receiver.proofs.Clauses.{consistent-exactly}
+use Rattle.receiver.proofs.Clauses.{consistent-exactly, counts-hold}
 use Rattle.receiver.proofs.Written.{same-refusal}
 
 -- ---- refusals
@@ -30,22 +33,22 @@ result-of : (k : ℕ) (r : Receiver) (bytes : List ℕ) → answered k r bytes .
 result-of zero r bytes = refl
 result-of (suc k) r bytes = refl
 
-module _ (r : Receiver) (time : Micros) (room : ℕ) where
-  rows : writeRefusal r time room ≡ first (writeRows r time room)
+module _ (r : Receiver) (time : Micros) (kind : Kind) (room : ℕ) where
+  rows : writeRefusal r time kind room ≡ first (writeRows r time kind room)
   unfolding writeRefusal first
   rows =
-      let n : ℕ = length (frame (reported (r .seen)) (ackDelay (r .seen) time) 1) in
+      let n : ℕ = length (frame (reported (r .seen)) (tailOf kind (r .totals)) (ackDelay (r .seen) time) 1) in
       by-test (consistent r)
-      (λ y. by-test (small (time .0))
+      (λ y. let g = counts-hold r kind y in by-test (small (time .0))
       (λ t. by-test (eqb (r .seen .end) 0)
-      (λ z. rw (y, t, z))
-      (λ z. split n room (λ h. rw (y, t, z, le-leb n room h, le-ltb room n h)) (λ h. rw (y, t, z, lt-leb n room h, lt-ltb room n h))))
+      (λ z. rw (y, t, g, z))
+      (λ z. split n room (λ h. rw (y, t, g, z, le-leb n room h, le-ltb room n h)) (λ h. rw (y, t, g, z, lt-leb n room h, lt-ltb room n h))))
       (λ t. rw (y, t)))
       (λ y. rw y)
 
 pub write-exactly : WriteExactly
 unfolding writeAnswer
-write-exactly r time xs = result-of (writeRefusal r time (length xs)) r (emitted r time (length xs)) ∙ rows r time (length xs)
+write-exactly r time kind xs = result-of (writeRefusal r time kind (length xs)) r (emitted r time kind (length xs)) ∙ rows r time kind (length xs)
 
 -- ---- what the call leaves
 
@@ -57,17 +60,6 @@ module _ (r : Receiver) (bytes xs : List ℕ) where
   same-length : (k : ℕ) → answered k r bytes .length ≡ acked k bytes .length
   same-length zero = refl
   same-length (suc k) = refl
-
-pub write-leaves : WriteLeaves
-unfolding writeAnswer writeBytes
-write-leaves r time xs =
-    let k : ℕ = writeRefusal r time (length xs) in
-    let bytes : List ℕ = emitted r time (length xs) in
-    record {
-      unchanged = unchanged-of r bytes xs k;
-      long = laid-long bytes xs k (frame-fits (r .seen) time (length xs));
-      stay = rw (same-length r bytes xs k) (laid-stays bytes xs k);
-    }
 
 -- ---- a consistent record stays consistent
 
@@ -94,6 +86,7 @@ still r c =
       own = c .own;
       below = c .below;
       floor = c .floor;
+      totals = c .totals;
       nothing = λ e. refl;
     }
 
@@ -103,14 +96,14 @@ keeps-of (suc k) r bytes e = e
 
 pub write-keeps : WriteKeeps
 unfolding writeAnswer
-write-keeps r time xs e = keeps-of (writeRefusal r time (length xs)) r (emitted r time (length xs)) e
+write-keeps r time kind xs e = keeps-of (writeRefusal r time kind (length xs)) r (emitted r time kind (length xs)) e
 
 -- ---- read back
 
 -- an accepted write passed the first test, and so `write_ack` was asked
-asked : (r : Receiver) (time : Micros) (room : ℕ) → writeRefusal r time room ≡ 0 → restConsistent r ≡ true
+asked : (r : Receiver) (time : Micros) (kind : Kind) (room : ℕ) → writeRefusal r time kind room ≡ 0 → restConsistent r ≡ true
 unfolding writeRefusal consistent
-asked r time room e =
+asked r time kind room e =
     by-test (restConsistent r) (λ y. y)
     (λ n. by-test (seenConsistent (r .seen))
     (λ s. let f : _≡_ {A = ℕ} 1 0 = rw (s, n) at e in absurd (omega arith))
@@ -121,9 +114,24 @@ result-acked k bytes e = rw e
 
 pub write-read-back : WriteReadBack
 unfolding writeAnswer writeBytes ackAnswer ackBytes
-write-read-back r time xs e =
-    let k : ℕ = writeRefusal r time (length xs) in
-    let bytes : List ℕ = emitted r time (length xs) in
+write-read-back r time kind xs e =
+    let k : ℕ = writeRefusal r time kind (length xs) in
+    let tail : Tail = tailOf kind (r .totals) in
+    let bytes : List ℕ = emitted r time kind (length xs) in
     let z : k ≡ 0 = sym (result-of k r bytes) ∙ e in
-    let s : k ≡ ackRefusal (r .seen) time (length xs) = same-refusal r time xs (asked r time (length xs) z) in
-    rw (same-length r bytes xs k, s) (ack-read-back (r .seen) time xs (result-acked _ bytes (sym s ∙ z)))
+    let s : k ≡ ackRefusal (r .seen) time tail (length xs) = same-refusal r time kind xs (asked r time kind (length xs) z) in
+    rw (same-length r bytes xs k, s) (ack-read-back (r .seen) time tail xs (result-acked _ bytes (sym s ∙ z)))
+
+-- ---- what the call leaves in the buffer
+
+pub write-leaves : WriteLeaves
+unfolding writeAnswer writeBytes
+write-leaves r time kind xs =
+    let k : ℕ = writeRefusal r time kind (length xs) in
+    let bytes : List ℕ = emitted r time kind (length xs) in
+    record {
+      unchanged = unchanged-of r bytes xs k;
+      long = laid-long bytes xs k
+          (λ z. frame-fits (r .seen) time (tailOf kind (r .totals)) xs (sym (same-refusal r time kind xs (asked r time kind (length xs) z)) ∙ z));
+      stay = rw (same-length r bytes xs k) (laid-stays bytes xs k);
+    }

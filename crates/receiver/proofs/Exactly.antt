@@ -99,7 +99,7 @@ unfolding openCall openRefusal packetCall packetRefusal timerCall timerRefusal i
 exactly =
     record {
       opening = λ t q m u. result-of (openRefusal t q m u) usual (opened t q m u) ∙ next-test (small t && (small q && (small (m .0) && small (u .0)))) 5 _ _ (one-test (limitsRule (record { maximum = m; minimum = u })) 4);
-      packet = λ r n time eliciting ce. result-of (packetRefusal r n time) r (packetAfter r n time eliciting ce) ∙ after-test (consistent r) 1 _ _ (λ e. next-test (small n && small (time .0)) 5 _ _ (number-rows (r .seen) n (below-end r e)));
+      packet = λ r n time eliciting mark. result-of (packetRefusal r n time) r (packetAfter r n time eliciting mark) ∙ after-test (consistent r) 1 _ _ (λ e. next-test (small n && small (time .0)) 5 _ _ (number-rows (r .seen) n (below-end r e)));
       timer = λ r time. result-of (timerRefusal r time) r (timerAfter r time) ∙ next-test (consistent r) 1 _ _ (one-test (small (time .0)) 5);
       immediate = λ r. result-of (immediateRefusal r) r (immediateAfter r) ∙ immediate-rows (consistent r) (eqb (r .seen .end) 0);
       threshold = λ r s t d q. verdict-of (thresholdVerdict r s t d q) r (agreedAfter r s t d q) ∙ threshold-rows (consistent r) (small s && (small t && (small (d .0) && small q))) (delayRule (r .limits) d) (ltb s (r .agreed .sequence));
@@ -111,7 +111,7 @@ unfolding openCall packetCall timerCall immediateCall thresholdCall confirmCall
 unchanged =
     record {
       opening = λ t q m u f. kept (openRefusal t q m u) usual (opened t q m u) f;
-      packet = λ r n time eliciting ce f. kept (packetRefusal r n time) r (packetAfter r n time eliciting ce) f;
+      packet = λ r n time eliciting mark f. kept (packetRefusal r n time) r (packetAfter r n time eliciting mark) f;
       timer = λ r time f. kept (timerRefusal r time) r (timerAfter r time) f;
       immediate = λ r f. kept (immediateRefusal r) r (immediateAfter r) f;
       threshold = λ r s t d q f. heard-kept (thresholdVerdict r s t d q) r (agreedAfter r s t d q) f;

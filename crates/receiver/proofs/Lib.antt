@@ -1,5 +1,6 @@
 pub mod Standing
 pub mod Missing
+pub mod Counted
 pub mod Clauses
 pub mod Raised
 pub mod Written

@@ -12,6 +12,8 @@ use Rattle.seen.specs.Received.{seenConsistent}
 use Rattle.seen.specs.Ack.{ackRefusal, ackFrame, acked, ackAnswer, ackBytes}
 use Rattle.seen.proofs.Tests.{by-test}
 use Rattle.receiver.specs.declared.Receiver.{Receiver}
+use Rattle.receiver.specs.declared.Kind.{Kind}
+use Rattle.receiver.specs.Totals.{tailOf}
 use Rattle.receiver.specs.Record.{restConsistent, consistent}
 use Rattle.receiver.specs.Write.{writeRefusal, afterWrite, answered, writeAnswer, writeBytes}
 
@@ -34,25 +36,25 @@ module _ (r : Receiver) (bytes : List ℕ) where
   frame-answered zero e = refl
   frame-answered (suc k) e = absurd (omega arith)
 
-module _ (r : Receiver) (time : Micros) (xs : List ℕ) where
-  pub refused-first : restConsistent r ≡ false → (record { result = 1; length = 0; next = r } ≡ writeAnswer r time xs) × (xs ≡ writeBytes r time xs)
+module _ (r : Receiver) (time : Micros) (kind : Kind) (xs : List ℕ) where
+  pub refused-first : restConsistent r ≡ false → (record { result = 1; length = 0; next = r } ≡ writeAnswer r time kind xs) × (xs ≡ writeBytes r time kind xs)
   unfolding writeAnswer writeBytes writeRefusal
   refused-first e = rw (rest-fails r e) (refl, refl)
 
   module _ (y : restConsistent r ≡ true) where
-    pub same-refusal : writeRefusal r time (length xs) ≡ ackRefusal (r .seen) time (length xs)
+    pub same-refusal : writeRefusal r time kind (length xs) ≡ ackRefusal (r .seen) time (tailOf kind (r .totals)) (length xs)
     unfolding writeRefusal ackRefusal
     same-refusal = rw (rest-holds r y)
 
-    module _ {a : Acked} {ys : List ℕ} (e : a ≡ ackAnswer (r .seen) time xs) (f : ys ≡ ackBytes (r .seen) time xs) where
-      pub wrote-refusal : (a .result ≡ 0 → ⊥) → (record { result = a .result; length = 0; next = r } ≡ writeAnswer r time xs) × (ys ≡ writeBytes r time xs)
+    module _ {a : Acked} {ys : List ℕ} (e : a ≡ ackAnswer (r .seen) time (tailOf kind (r .totals)) xs) (f : ys ≡ ackBytes (r .seen) time (tailOf kind (r .totals)) xs) where
+      pub wrote-refusal : (a .result ≡ 0 → ⊥) → (record { result = a .result; length = 0; next = r } ≡ writeAnswer r time kind xs) × (ys ≡ writeBytes r time kind xs)
       unfolding writeAnswer writeBytes ackAnswer ackBytes
       wrote-refusal n =
-          let k : ℕ = ackRefusal (r .seen) time (length xs) in
-          rw (same-refusal, e) (refusal-answered r (ackFrame (r .seen) time (length xs)) k (λ z. n (ap (λ (x : Acked). x .result) e ∙ z)), f)
+          let k : ℕ = ackRefusal (r .seen) time (tailOf kind (r .totals)) (length xs) in
+          rw (same-refusal, e) (refusal-answered r (ackFrame (r .seen) time (tailOf kind (r .totals)) (length xs)) k (λ z. n (ap (λ (x : Acked). x .result) e ∙ z)), f)
 
-      pub wrote-frame : {q : Receiver} → q ≡ afterWrite r → a .result ≡ 0 → (record { result = 0; length = a .length; next = q } ≡ writeAnswer r time xs) × (ys ≡ writeBytes r time xs)
+      pub wrote-frame : {q : Receiver} → q ≡ afterWrite r → a .result ≡ 0 → (record { result = 0; length = a .length; next = q } ≡ writeAnswer r time kind xs) × (ys ≡ writeBytes r time kind xs)
       unfolding writeAnswer writeBytes ackAnswer ackBytes
       wrote-frame w z =
-          let k : ℕ = ackRefusal (r .seen) time (length xs) in
-          rw (same-refusal, e, w) (frame-answered r (ackFrame (r .seen) time (length xs)) k (ap (λ (x : Acked). x .result) (sym e) ∙ z), f)
+          let k : ℕ = ackRefusal (r .seen) time (tailOf kind (r .totals)) (length xs) in
+          rw (same-refusal, e, w) (frame-answered r (ackFrame (r .seen) time (tailOf kind (r .totals)) (length xs)) k (ap (λ (x : Acked). x .result) (sym e) ∙ z), f)

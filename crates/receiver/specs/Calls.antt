@@ -31,6 +31,7 @@ opened threshold reordering maximum minimum =
       highest = 0;
       ce = 0;
       cause = 0;
+      totals = record { ect0 = 0; ect1 = 0; ce = 0; unmarked = 0 };
     }
 
 -- "The usual opening is 1, 1, 25 ms with minimum 1,000"
@@ -62,6 +63,7 @@ withCause r cause =
       highest = r .highest;
       ce = r .ce;
       cause = cause;
+      totals = r .totals;
     }
 
 -- "IMMEDIATE_ACK sets cause 1 if none stands; before the first packet it is refused with 8"
@@ -101,6 +103,7 @@ agreedAfter r sequence threshold delay reordering =
       highest = r .highest;
       ce = r .ce;
       cause = r .cause;
+      totals = r .totals;
     }
 
 -- 1, 5, 4; then "stale if its sequence is not above the largest processed (the first never is)"

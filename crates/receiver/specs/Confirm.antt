@@ -30,6 +30,7 @@ confirmAfter r k =
       highest = r .highest;
       ce = r .ce;
       cause = r .cause;
+      totals = r .totals;
     }
 
 unfoldable pub confirmCall : Receiver → ℕ → Answer

@@ -4,6 +4,7 @@ use mathlib.Core.Path.{_≡_}
 use mathlib.Core.List.{List, [], _∷_}
 use lib.ListN.{replicate}
 use Rattle.receiver.specs.declared.Receiver.{Receiver}
+use Rattle.receiver.specs.declared.Kind.the-variants.{Plain}
 use Rattle.receiver.specs.Confirm.{confirmCall}
 use Rattle.receiver.specs.Write.{writeBytes}
 use Rattle.receiver.specs.Examples.{started, arrival, afterFrame}
@@ -19,7 +20,7 @@ upTo k = confirmCall acknowledged k .next
 
 -- what is written then, in a room of seven bytes
 abbrev pub written : Receiver → List ℕ
-written r = writeBytes r atOnce (replicate 7 0)
+written r = writeBytes r atOnce Plain (replicate 7 0)
 
 pub record Confirmed : Type 0 where
   -- "a floor that rises to k + 1": a number below it gives 7 though it was received, and so does one that is missing there

@@ -36,6 +36,8 @@ pub record Consistent (r : Receiver) : Type 0 where
   pub below : (place : ℕ) → place < places - r .seen .end → isSet (valueOf (r .seen .window)) place ≡ false
   -- "the floor is at most L, and 0 while nothing was received" (02, No. 12)
   pub floor : r .seen .confirmed ≤ r .seen .end - 1
+  -- "1 also for a total above that", 2^62 - 1 (02, No. 2)
+  pub totals : (r .totals .ect0 ≤ limit) × (r .totals .ect1 ≤ limit) × (r .totals .ce ≤ limit) × (r .totals .unmarked ≤ limit)
   -- "if nothing was received, [..] A, H and U are absent and N and the cause are 0": the others follow from the clauses above
   pub nothing : r .seen .end ≡ 0 → r .cause ≡ 0
 

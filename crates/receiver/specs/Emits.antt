@@ -11,6 +11,8 @@ use Rattle.seen.specs.Received.{reported}
 use Rattle.seen.specs.Ack.{ackDelay, frame, rangesKept}
 use Rattle.seen.specs.Emits.{Emits}
 use Rattle.receiver.specs.declared.Receiver.{Receiver}
+use Rattle.receiver.specs.declared.Kind.{Kind}
+use Rattle.receiver.specs.Totals.{tailOf}
 use Rattle.receiver.specs.Record.{consistent}
 use Rattle.receiver.specs.Exactly.{Row, row, first, inconsistent}
 use Rattle.receiver.specs.Write.{writeAnswer, writeBytes}
@@ -19,32 +21,32 @@ use Rattle.receiver.specs.Write.{writeAnswer, writeBytes}
 
 abbrev pub WriteReadBack : Type 0
 WriteReadBack =
-    (r : Receiver) (time : Micros) (xs : List ℕ) → writeAnswer r time xs .result ≡ 0
-    → Emits (r .seen) time xs (writeBytes r time xs) (writeAnswer r time xs .length) (rangesKept (reported (r .seen)) (ackDelay (r .seen) time) (length xs))
+    (r : Receiver) (time : Micros) (kind : Kind) (xs : List ℕ) → writeAnswer r time kind xs .result ≡ 0
+    → Emits (r .seen) time (tailOf kind (r .totals)) xs (writeBytes r time kind xs) (writeAnswer r time kind xs .length) (rangesKept (reported (r .seen)) (tailOf kind (r .totals)) (ackDelay (r .seen) time) (length xs))
 
 -- ---- the rows of the refusal table, in their order, and what a call leaves
 
--- 9: "the smallest permitted output", the frame with the first range only, "does not fit the room, the lent buffer's length"
-abbrev pub writeRows : Receiver → Micros → ℕ → List Row
-writeRows r time room =
+-- 9: "the smallest permitted output", the frame with the first range only and its counts, "does not fit the room, the lent buffer's length"
+abbrev pub writeRows : Receiver → Micros → Kind → ℕ → List Row
+writeRows r time kind room =
     inconsistent r
     ∷ row 5 (not (small (time .0)))
     ∷ row 8 (eqb (r .seen .end) 0)
-    ∷ row 9 (ltb room (length (frame (reported (r .seen)) (ackDelay (r .seen) time) 1)))
+    ∷ row 9 (ltb room (length (frame (reported (r .seen)) (tailOf kind (r .totals)) (ackDelay (r .seen) time) 1)))
     ∷ []
 
 abbrev pub WriteExactly : Type 0
-WriteExactly = (r : Receiver) (time : Micros) (xs : List ℕ) → writeAnswer r time xs .result ≡ first (writeRows r time (length xs))
+WriteExactly = (r : Receiver) (time : Micros) (kind : Kind) (xs : List ℕ) → writeAnswer r time kind xs .result ≡ first (writeRows r time kind (length xs))
 
 -- "A refusal returns its number and the record as it came in, and writes no element of a lent buffer"; "Bytes after the frame stay"
-pub record Leaves (r : Receiver) (time : Micros) (xs : List ℕ) : Type 0 where
-  pub unchanged : (writeAnswer r time xs .result ≡ 0 → ⊥) → (writeAnswer r time xs .next ≡ r) × (writeBytes r time xs ≡ xs)
-  pub long : length (writeBytes r time xs) ≡ length xs
-  pub stay : drop (writeAnswer r time xs .length) (writeBytes r time xs) ≡ drop (writeAnswer r time xs .length) xs
+pub record Leaves (r : Receiver) (time : Micros) (kind : Kind) (xs : List ℕ) : Type 0 where
+  pub unchanged : (writeAnswer r time kind xs .result ≡ 0 → ⊥) → (writeAnswer r time kind xs .next ≡ r) × (writeBytes r time kind xs ≡ xs)
+  pub long : length (writeBytes r time kind xs) ≡ length xs
+  pub stay : drop (writeAnswer r time kind xs .length) (writeBytes r time kind xs) ≡ drop (writeAnswer r time kind xs .length) xs
 
 abbrev pub WriteLeaves : Type 0
-WriteLeaves = (r : Receiver) (time : Micros) (xs : List ℕ) → Leaves r time xs
+WriteLeaves = (r : Receiver) (time : Micros) (kind : Kind) (xs : List ℕ) → Leaves r time kind xs
 
 -- a consistent record stays consistent
 abbrev pub WriteKeeps : Type 0
-WriteKeeps = (r : Receiver) (time : Micros) (xs : List ℕ) → consistent r ≡ true → consistent (writeAnswer r time xs .next) ≡ true
+WriteKeeps = (r : Receiver) (time : Micros) (kind : Kind) (xs : List ℕ) → consistent r ≡ true → consistent (writeAnswer r time kind xs .next) ≡ true

@@ -8,6 +8,7 @@ use Rattle.wire.specs.Bytes.{pick}
 use Rattle.receiver.specs.declared.Millis.{Millis}
 use Rattle.seen.specs.declared.Micros.{Micros}
 use Rattle.receiver.specs.declared.Receiver.{Receiver}
+use Rattle.receiver.specs.declared.Mark.{Mark}
 use Rattle.receiver.specs.declared.Verdict.{Verdict}
 use Rattle.receiver.specs.declared.Verdict.the-variants.{Accepted, Stale, Refused}
 use Rattle.seen.specs.Numbers.{small}
@@ -73,7 +74,7 @@ verdictOf (suc k) stale = Refused (suc k)
 -- each call's answer is that of its rows
 pub record Exactly : Type 0 where
   pub opening : (t q : ℕ) (m : Millis) (u : Micros) → openCall t q m u .result ≡ first (openRows t q m u)
-  pub packet : (r : Receiver) (n : ℕ) (time : Micros) (eliciting ce : Bool) → packetCall r n time eliciting ce .result ≡ first (packetRows r n time)
+  pub packet : (r : Receiver) (n : ℕ) (time : Micros) (eliciting : Bool) (mark : Mark) → packetCall r n time eliciting mark .result ≡ first (packetRows r n time)
   pub timer : (r : Receiver) (time : Micros) → timerCall r time .result ≡ first (timerRows r time)
   pub immediate : (r : Receiver) → immediateCall r .result ≡ first (immediateRows r)
   pub threshold : (r : Receiver) (s t : ℕ) (d : Micros) (q : ℕ) → thresholdCall r s t d q .verdict ≡ verdictOf (first (thresholdRows r s t d q)) (ltb s (r .agreed .sequence))
@@ -82,7 +83,7 @@ pub record Exactly : Type 0 where
 -- a refused or stale call hands the record back as it came, and a refused opening the usual record
 pub record Unchanged : Type 0 where
   pub opening : (t q : ℕ) (m : Millis) (u : Micros) → (openCall t q m u .result ≡ 0 → ⊥) → openCall t q m u .next ≡ usual
-  pub packet : (r : Receiver) (n : ℕ) (time : Micros) (eliciting ce : Bool) → (packetCall r n time eliciting ce .result ≡ 0 → ⊥) → packetCall r n time eliciting ce .next ≡ r
+  pub packet : (r : Receiver) (n : ℕ) (time : Micros) (eliciting : Bool) (mark : Mark) → (packetCall r n time eliciting mark .result ≡ 0 → ⊥) → packetCall r n time eliciting mark .next ≡ r
   pub timer : (r : Receiver) (time : Micros) → (timerCall r time .result ≡ 0 → ⊥) → timerCall r time .next ≡ r
   pub immediate : (r : Receiver) → (immediateCall r .result ≡ 0 → ⊥) → immediateCall r .next ≡ r
   pub threshold : (r : Receiver) (s t : ℕ) (d : Micros) (q : ℕ) → (thresholdCall r s t d q .verdict ≡ Accepted → ⊥) → thresholdCall r s t d q .next ≡ r

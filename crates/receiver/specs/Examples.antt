@@ -1,11 +1,13 @@
 -- The settled examples P4, P5 and P8, on the definitions.
 use Prim.Native.Nat.{ℕ, zero, suc}
 use mathlib.Core.Path.{_≡_}
-use mathlib.Core.Bool.{true, false}
+use mathlib.Core.Bool.{true}
 use mathlib.Core.List.{List, [], _∷_}
 use lib.ListN.{replicate}
 use Rattle.receiver.specs.declared.Receiver.{Receiver}
 use Rattle.receiver.specs.declared.Answer.{Answer}
+use Rattle.receiver.specs.declared.Mark.the-variants.{None}
+use Rattle.receiver.specs.declared.Kind.the-variants.{Plain}
 use Rattle.receiver.specs.Packet.{packetCall}
 use Rattle.receiver.specs.Calls.{opened}
 use Rattle.receiver.specs.Write.{writeAnswer}
@@ -14,13 +16,13 @@ use Rattle.receiver.specs.Write.{writeAnswer}
 abbrev pub started : ℕ → Receiver
 started q = opened 1000 q (record { 0 = 25 }) (record { 0 = 1000 })
 
--- an ack-eliciting packet, at time 0
+-- an ack-eliciting packet without a mark, at time 0
 abbrev pub arrival : Receiver → ℕ → Answer
-arrival r n = packetCall r n (record { 0 = 0 }) true false
+arrival r n = packetCall r n (record { 0 = 0 }) true None
 
 -- the record after a write at time 0, in a room of 1,200 bytes
 abbrev pub afterFrame : Receiver → Receiver
-afterFrame r = writeAnswer r (record { 0 = 0 }) (replicate 1200 0) .next
+afterFrame r = writeAnswer r (record { 0 = 0 }) Plain (replicate 1200 0) .next
 
 -- the arrivals at which an acknowledgment is due, "written when due"
 unfoldable pub dues : Receiver → List ℕ → List ℕ

@@ -1,3 +1,4 @@
+pub mod Totals
 pub mod Record
 pub mod Consistent
 pub mod Packet

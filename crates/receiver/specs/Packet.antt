@@ -12,6 +12,8 @@ use Rattle.receiver.specs.declared.Pending.{Pending}
 use Rattle.receiver.specs.declared.Agreed.{Agreed}
 use Rattle.receiver.specs.declared.Receiver.{Receiver}
 use Rattle.receiver.specs.declared.Answer.{Answer}
+use Rattle.receiver.specs.declared.Mark.{Mark}
+use Rattle.receiver.specs.Totals.{isCe, totalsAfter}
 use Rattle.seen.specs.Numbers.{small}
 use Rattle.seen.specs.Received.{numberRefusal, seenAfter, firstMissing, isAny}
 use Rattle.seen.specs.Ack.{numberAt}
@@ -89,9 +91,9 @@ pub record InRange (s : Seen) (end : ℕ) : Type 0 where
 
 -- ---- the call
 
--- either kind: the window and the CE mark
-abbrev pub plainAfter : Receiver → ℕ → Micros → Bool → Receiver
-plainAfter r n time ce =
+-- either kind: the window, the CE mark and the total of its mark
+abbrev pub plainAfter : Receiver → ℕ → Micros → Mark → Receiver
+plainAfter r n time mark =
     record {
       seen = seenAfter (r .seen) n time;
       pending = r .pending;
@@ -99,13 +101,14 @@ plainAfter r n time ce =
       limits = r .limits;
       acknowledged = r .acknowledged;
       highest = r .highest;
-      ce = pick ce 1 0;
+      ce = pick (isCe mark) 1 0;
       cause = r .cause;
+      totals = totalsAfter (r .totals) mark;
     }
 
 -- an ack-eliciting one also N, U, H and the cause; q is the record with its window and mark
-abbrev pub elicitingAfter : Receiver → Receiver → ℕ → Micros → Bool → Receiver
-elicitingAfter r q n time ce =
+abbrev pub elicitingAfter : Receiver → Receiver → ℕ → Micros → Mark → Receiver
+elicitingAfter r q n time mark =
     record {
       seen = q .seen;
       pending = pendingAfter (r .pending) n time;
@@ -114,17 +117,18 @@ elicitingAfter r q n time ce =
       acknowledged = q .acknowledged;
       highest = max (r .highest) (n + 1);
       ce = q .ce;
-      cause = causeAfter r n ce (q .seen) (pendingAfter (r .pending) n time);
+      cause = causeAfter r n (isCe mark) (q .seen) (pendingAfter (r .pending) n time);
+      totals = q .totals;
     }
 
 -- "A packet that is not ack-eliciting never sets a cause"
-unfoldable pub packetAfter : Receiver → ℕ → Micros → Bool → Bool → Receiver
-packetAfter r n time eliciting ce = pick eliciting (elicitingAfter r (plainAfter r n time ce) n time ce) (plainAfter r n time ce)
+unfoldable pub packetAfter : Receiver → ℕ → Micros → Bool → Mark → Receiver
+packetAfter r n time eliciting mark = pick eliciting (elicitingAfter r (plainAfter r n time mark) n time mark) (plainAfter r n time mark)
 
 -- "A refusal returns its number and the record as it came in"
 abbrev pub handedBack : ℕ → Receiver → Receiver → Answer
 handedBack zero old new = record { result = 0; next = new }
 handedBack (suc refusal) old new = record { result = suc refusal; next = old }
 
-unfoldable pub packetCall : Receiver → ℕ → Micros → Bool → Bool → Answer
-packetCall r n time eliciting ce = handedBack (packetRefusal r n time) r (packetAfter r n time eliciting ce)
+unfoldable pub packetCall : Receiver → ℕ → Micros → Bool → Mark → Answer
+packetCall r n time eliciting mark = handedBack (packetRefusal r n time) r (packetAfter r n time eliciting mark)

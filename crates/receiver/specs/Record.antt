@@ -12,6 +12,7 @@ use Rattle.receiver.specs.declared.Pending.{Pending}
 use Rattle.receiver.specs.declared.Agreed.{Agreed}
 use Rattle.receiver.specs.declared.Limits.{Limits}
 use Rattle.receiver.specs.declared.Receiver.{Receiver}
+use Rattle.receiver.specs.Totals.{totalsConsistent}
 
 -- ---- the two delays, "in different units; each has its own type here"
 
@@ -36,15 +37,16 @@ pendingConsistent p end = smallEnd (p .count) && (small (p .first .0) && (leb (p
 unfoldable pub agreedConsistent : Agreed → Limits → Bool
 agreedConsistent a l = small (a .threshold) && (small (a .reordering) && (smallEnd (a .sequence) && delayRule l (a .delay)))
 
--- "the delay rule holds; the cause is 0 to 5; A, H and U are each absent or at most L"; "if nothing was received, [..] the cause [is] 0"
+-- each part by its own rule, the totals too (02, No. 2): "the delay rule holds; the cause is 0 to 5; A, H and U are each absent or at most L"; "if nothing was received, [..] the cause [is] 0"
 abbrev pub restConsistent : Receiver → Bool
 restConsistent r =
     pendingConsistent (r .pending) (r .seen .end)
     && (limitsRule (r .limits)
     && (agreedConsistent (r .agreed) (r .limits)
+    && (totalsConsistent (r .totals)
     && (leb (r .acknowledged) (r .seen .end)
     && (leb (r .highest) (r .seen .end)
-    && pick (eqb (r .seen .end) 0) (eqb (r .cause) 0) (leb (r .cause) 5)))))
+    && pick (eqb (r .seen .end) 0) (eqb (r .cause) 0) (leb (r .cause) 5))))))
 
 -- what was received, and the rest of the record
 unfoldable pub consistent : Receiver → Bool

@@ -7,13 +7,15 @@ use Rattle.seen.specs.declared.Micros.{Micros}
 use Rattle.seen.specs.Ack.{refusalAfter1, ackFrame, laid}
 use Rattle.receiver.specs.declared.Receiver.{Receiver}
 use Rattle.receiver.specs.declared.Wrote.{Wrote}
+use Rattle.receiver.specs.declared.Kind.{Kind}
+use Rattle.receiver.specs.Totals.{tailOf}
 use Rattle.receiver.specs.Record.{consistent}
 
 -- ---- xs is the lent buffer, its length the room
 
 -- 1, then 5, 8, 9
-unfoldable pub writeRefusal : Receiver → Micros → ℕ → ℕ
-writeRefusal r time room = pick (consistent r) (refusalAfter1 (r .seen) time room) 1
+unfoldable pub writeRefusal : Receiver → Micros → Kind → ℕ → ℕ
+writeRefusal r time kind room = pick (consistent r) (refusalAfter1 (r .seen) time (tailOf kind (r .totals)) room) 1
 
 -- "After it A = L, U is absent, N and cause are 0"
 unfoldable pub afterWrite : Receiver → Receiver
@@ -27,11 +29,12 @@ afterWrite r =
       highest = r .highest;
       ce = r .ce;
       cause = 0;
+      totals = r .totals;
     }
 
 -- the frame that the call emits
-abbrev pub emitted : Receiver → Micros → ℕ → List ℕ
-emitted r time room = ackFrame (r .seen) time room
+abbrev pub emitted : Receiver → Micros → Kind → ℕ → List ℕ
+emitted r time kind room = ackFrame (r .seen) time (tailOf kind (r .totals)) room
 
 -- "A refusal returns its number and the record as it came in"
 abbrev pub answered : ℕ → Receiver → List ℕ → Wrote
@@ -39,9 +42,9 @@ answered zero r bytes = record { result = 0; length = length bytes; next = after
 answered (suc refusal) r bytes = record { result = suc refusal; length = 0; next = r }
 
 -- the answer
-unfoldable pub writeAnswer : Receiver → Micros → List ℕ → Wrote
-writeAnswer r time xs = answered (writeRefusal r time (length xs)) r (emitted r time (length xs))
+unfoldable pub writeAnswer : Receiver → Micros → Kind → List ℕ → Wrote
+writeAnswer r time kind xs = answered (writeRefusal r time kind (length xs)) r (emitted r time kind (length xs))
 
 -- the lent buffer after it
-unfoldable pub writeBytes : Receiver → Micros → List ℕ → List ℕ
-writeBytes r time xs = laid (writeRefusal r time (length xs)) xs (emitted r time (length xs))
+unfoldable pub writeBytes : Receiver → Micros → Kind → List ℕ → List ℕ
+writeBytes r time kind xs = laid (writeRefusal r time kind (length xs)) xs (emitted r time kind (length xs))

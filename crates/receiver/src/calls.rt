@@ -13,6 +13,7 @@ use crate::Limits;
 use crate::Millis;
 use crate::Pending;
 use crate::Receiver;
+use crate::Totals;
 use crate::Verdict;
 use seen::Micros;
 use seen::Seen;
@@ -30,7 +31,7 @@ fn standing(cause: u64, new: u64) -> u64
 }
 
 // Whether four numbers obey 5.
-fn all_small(a: u64, b: u64, c: u64, d: u64) -> bool
+pub(crate) fn all_small(a: u64, b: u64, c: u64, d: u64) -> bool
     ensures { λ r. ⌜ r ≡ (small a && (small b && (small c && small d))) ⌝ }
 {
     if !numbers::is_small(a) {
@@ -98,6 +99,12 @@ impl Receiver {
             highest: 0,
             ce: 0,
             cause: 0,
+            totals: Totals {
+                ect0: 0,
+                ect1: 0,
+                ce: 0,
+                unmarked: 0,
+            },
         }
     }
 

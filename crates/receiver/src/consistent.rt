@@ -52,6 +52,7 @@ impl Receiver {
         let pending = self.pending;
         let agreed = self.agreed;
         let limits = self.limits;
+        let totals = self.totals;
         let end = seen.end;
         if !pending.consistent(end) {
             return false;
@@ -60,6 +61,9 @@ impl Receiver {
             return false;
         }
         if !agreed.consistent(limits) {
+            return false;
+        }
+        if !totals.obey() {
             return false;
         }
         if end < self.acknowledged {

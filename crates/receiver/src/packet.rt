@@ -7,6 +7,7 @@ ghost use Rattle.wire.specs.Numbers.{limit};
 ghost use Rattle.receiver.specs.Record.{consistent};
 ghost use Rattle.receiver.specs.Packet.{pendingAfter, packetAfter, packetCall};
 use crate::Answer;
+use crate::Mark;
 use crate::Pending;
 use crate::Receiver;
 use seen::Micros;
@@ -49,13 +50,16 @@ fn as_number(ce: bool) -> u64
 
 impl Receiver {
     // The record with an accepted packet.
-    fn with(self, number: u64, time: Micros, eliciting: bool, ce: bool) -> Receiver
+    fn with(self, number: u64, time: Micros, eliciting: bool, mark: Mark) -> Receiver
         requires { ⌜ (number ≤ limit) × (consistent self ≡ true) ⌝ }
-        ensures { λ r. ⌜ r ≡ packetAfter self number time eliciting ce ⌝ }
+        ensures { λ r. ⌜ r ≡ packetAfter self number time eliciting mark ⌝ }
     {
         let before = self.seen;
         let seen = before.with(number, time);
-        let mark = as_number(ce);
+        let earlier = self.totals;
+        let totals = earlier.counted(mark);
+        let ce = mark.is_ce();
+        let last = as_number(ce);
         let waiting = self.pending;
         if !eliciting {
             let agreed = self.agreed;
@@ -67,8 +71,9 @@ impl Receiver {
                 limits,
                 acknowledged: self.acknowledged,
                 highest: self.highest,
-                ce: mark,
+                ce: last,
                 cause: self.cause,
+                totals,
             };
         }
         let pending = waiting.with(number, time);
@@ -83,14 +88,15 @@ impl Receiver {
             limits,
             acknowledged: self.acknowledged,
             highest,
-            ce: mark,
+            ce: last,
             cause,
+            totals,
         }
     }
 
-    // A packet arrives: its number, its time, whether it is ack-eliciting, whether it has the CE mark.
-    pub fn packet(self, number: u64, time: Micros, eliciting: bool, ce: bool) -> Answer
-        ensures { λ r. ⌜ r ≡ packetCall self number time eliciting ce ⌝ }
+    // A packet arrives: its number, its time, whether it is ack-eliciting, and its mark.
+    pub fn packet(self, number: u64, time: Micros, eliciting: bool, mark: Mark) -> Answer
+        ensures { λ r. ⌜ r ≡ packetCall self number time eliciting mark ⌝ }
     {
         if !self.consistent() {
             return Answer::refused(1, self);
@@ -106,7 +112,7 @@ impl Receiver {
         if refusal != 0 {
             return Answer::refused(refusal, self);
         }
-        let next = self.with(number, time, eliciting, ce);
+        let next = self.with(number, time, eliciting, mark);
         Answer { result: 0, next }
     }
 }

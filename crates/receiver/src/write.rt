@@ -1,6 +1,7 @@
 // The write call: the ACK frame of what was received, and nothing is left to acknowledge.
 ghost use mathlib.Core.Path.{_≡_};
 ghost use Rattle.receiver.specs.Write.{afterWrite, writeAnswer, writeBytes};
+use crate::Kind;
 use crate::Pending;
 use crate::Receiver;
 use crate::Wrote;
@@ -39,15 +40,17 @@ impl Receiver {
         next
     }
 
-    // Writes an ACK frame at the start of buf. Due or not, it is allowed once something was received.
-    pub fn write(self, time: Micros, buf: &mut [u8]) -> Wrote
-        ensures { λ r. ⌜ (r ≡ writeAnswer self time (now (buf .entry))) × (now (buf .exit) ≡ writeBytes self time (now (buf .entry))) ⌝ }
+    // Writes an ACK frame of the type that the caller chose at the start of buf. Due or not, it is allowed once something was received.
+    pub fn write(self, time: Micros, kind: Kind, buf: &mut [u8]) -> Wrote
+        ensures { λ r. ⌜ (r ≡ writeAnswer self time kind (now (buf .entry))) × (now (buf .exit) ≡ writeBytes self time kind (now (buf .entry))) ⌝ }
     {
         if !self.rest_consistent() {
             return Wrote::refused(1, self);
         }
         let seen = self.seen;
-        let acked = seen.write_ack(time, buf);
+        let totals = self.totals;
+        let tail = totals.said(kind);
+        let acked = seen.write_ack(time, tail, buf);
         if acked.result != 0 {
             return Wrote::refused(acked.result, self);
         }

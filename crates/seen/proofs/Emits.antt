@@ -11,9 +11,11 @@ use lib.Dec.{eqb}
 use lib.ListN.{length, take, drop, getD, length-append, length-drop}
 use lib.Seq.{take-nil, length-take-le, drop-append-seam}
 use Rattle.wire.specs.Bytes.{splice}
-use Rattle.wire.specs.Numbers.{limit, encodeAll}
+use Rattle.wire.specs.Numbers.{limit, allSmall}
 use Rattle.wire.proofs.Lengths.{split}
-use Rattle.frames.specs.Ack.{readAck, ackNumbers, RangesBelow, AckRanges}
+use Rattle.wire.proofs.Small.{all-small}
+use Rattle.frames.specs.declared.Tail.{Tail}
+use Rattle.frames.specs.Ack.{countsOf, readAck, RangesBelow, AckRanges}
 use Rattle.frames.specs.declared.Ack.the-variants.{Frame}
 use Rattle.frames.proofs.Back.{ack-back}
 use Rattle.seen.specs.declared.Micros.{Micros}
@@ -26,22 +28,13 @@ use Rattle.seen.proofs.Ranges.{Begun, Bottom, bottom, top, low, missing
 use Rattle.seen.proofs.Tests.{by-test}
 use Rattle.seen.proofs.Reported.{begun-reported}
 use Rattle.seen.proofs.Fitting.{first-bottom, first-down, first-rest, kept-says}
-use Rattle.seen.proofs.Written.{some-end, delay-small, gives-one, gives-five, gives-eight, gives-nine}
+use Rattle.seen.proofs.Written.{some-end, delay-small, gives-one, gives-five, gives-five-too, gives-eight, gives-nine}
 
 -- ---- what is left in the buffer
 
-pub frame-fits : (s : Seen) (time : Micros) (room : ℕ) → length (ackFrame s time room) ≤ room
-unfolding frame ackNumbers encodeAll
-frame-fits s time room =
-    let d : ℕ = ackDelay s time in
-    let k : ℕ = rangesKept (reported s) d room in
-    split k 0
-    (λ h. let z : k ≡ 0 = omega arith in omega (arith, ap (λ (n : ℕ). length (frame (reported s) d n)) z))
-    (λ h. leb-true (length (frame (reported s) d k)) room (kept-says (reported s) d room .holds h))
-
 module _ (bytes xs : List ℕ) where
-  pub laid-long : (k : ℕ) → length bytes ≤ length xs → length (laid k xs bytes) ≡ length xs
-  laid-long zero h = simp (length-append, length-drop) (omega arith)
+  pub laid-long : (k : ℕ) → (k ≡ 0 → length bytes ≤ length xs) → length (laid k xs bytes) ≡ length xs
+  laid-long zero f = let h : length bytes ≤ length xs = f refl in simp (length-append, length-drop) (omega arith)
   laid-long (suc k) h = refl
 
   pub laid-stays : (k : ℕ) → drop (acked k bytes .length) (laid k xs bytes) ≡ drop (acked k bytes .length) xs
@@ -55,25 +48,28 @@ result-of zero bytes = refl
 result-of (suc k) bytes = refl
 
 -- an accepted write passed every test
-record Passed (s : Seen) (time : Micros) (room : ℕ) : Type 0 where
+record Passed (s : Seen) (time : Micros) (tail : Tail) (room : ℕ) : Type 0 where
   begins : Begun (reported s)
   timely : small (time .0) ≡ true
-  fitting : fits (reported s) (ackDelay s time) room 1 ≡ true
+  counted : allSmall (countsOf tail) ≡ true
+  fitting : fits (reported s) tail (ackDelay s time) room 1 ≡ true
 
 other : {a b : ℕ} {P : Type 0} → a ≡ 0 → a ≡ suc b → P
 other e f = absurd (let z = sym e ∙ f in omega arith)
 
-passed : (s : Seen) (time : Micros) (room : ℕ) → ackRefusal s time room ≡ 0 → Passed s time room
-passed s time room e =
+passed : (s : Seen) (time : Micros) (tail : Tail) (room : ℕ) → ackRefusal s time tail room ≡ 0 → Passed s time tail room
+passed s time tail room e =
     by-test (seenConsistent s)
     (λ y. by-test (small (time .0))
-    (λ t. by-test (eqb (s .end) 0)
-    (λ z. other e (gives-eight s time room y t (eqb-true (s .end) 0 z)))
-    (λ z. by-test (fits (reported s) (ackDelay s time) room 1)
-    (λ f. record { begins = begun-reported s y (some-end (eqb-false (s .end) 0 z)); timely = t; fitting = f })
-    (λ f. other e (gives-nine s time room y t (eqb-false (s .end) 0 z) f))))
-    (λ t. other e (gives-five s time room y t)))
-    (λ y. other e (gives-one s time room y))
+    (λ t. by-test (allSmall (countsOf tail))
+    (λ g. by-test (eqb (s .end) 0)
+    (λ z. other e (gives-eight s time tail room y t g (eqb-true (s .end) 0 z)))
+    (λ z. by-test (fits (reported s) tail (ackDelay s time) room 1)
+    (λ f. record { begins = begun-reported s y (some-end (eqb-false (s .end) 0 z)); timely = t; counted = g; fitting = f })
+    (λ f. other e (gives-nine s time tail room y t g (eqb-false (s .end) 0 z) f))))
+    (λ g. other e (gives-five-too s time tail room y t g)))
+    (λ t. other e (gives-five s time tail room y t)))
+    (λ y. other e (gives-one s time tail room y))
 
 module _ {s : Seen} (b : Begun s) where
   below-ranges : (n p : ℕ) → Bottom s p → RangesBelow (numberAt (s .end) p) (take (2 * n) (down s p))
@@ -114,42 +110,50 @@ module _ {s : Seen} (b : Begun s) where
   newest-length : (k : ℕ) → k ≤ numberOfRanges s → length (take (2 * k) (ranges s)) ≡ 2 * k
   newest-length k h = length-take-le (2 * k) (ranges s) (omega arith)
 
-  -- its frame is read as those ranges
-  frame-back : (delay k : ℕ) (tl zs : List ℕ) → 0 < k → k ≤ numberOfRanges s → delay ≤ limit → 2 * k ≤ length zs
-      → readAck (frame s delay k ++ tl) zs ≡ record { answer = Frame (s .end - 1) delay k (length (frame s delay k)); slice = splice zs 0 (take (2 * k) (ranges s)) }
+  -- its frame is read as those ranges and the counts
+  frame-back : (tail : Tail) (delay k : ℕ) (tl zs : List ℕ) → 0 < k → k ≤ numberOfRanges s → delay ≤ limit → allSmall (countsOf tail) ≡ true → 2 * k ≤ length zs
+      → readAck (frame s tail delay k ++ tl) zs
+      ≡ record { answer = Frame (s .end - 1) delay k (length (frame s tail delay k)) tail; slice = splice zs 0 (take (2 * k) (ranges s)) }
   unfolding frame
-  frame-back delay k tl zs h l d z =
+  frame-back tail delay k tl zs h l d f z =
       let n : k ≡ suc (k - 1) = omega arith in
       let ps : List ℕ = take (2 * k) (ranges s) in
       let m : length ps ≡ 2 * k = newest-length k l in
       let a : AckRanges ps = rw n (newest-ranges (k - 1)) in
       let g : getD ps 1 0 ≡ s .end - 1 = rw n (newest-largest (k - 1)) in
       let q : length ps / 2 ≡ k = omega arith in
-      rw (g, q) at (ack-back delay ps tl zs a d (omega arith))
+      rw (g, q) at (ack-back tail delay ps tl zs a d (all-small (countsOf tail) .0 f) (omega arith))
 
-some-kept-of : (s : Seen) (time : Micros) (xs : List ℕ) → Passed s time (length xs) → 0 < rangesKept (reported s) (ackDelay s time) (length xs)
-some-kept-of s time xs p =
+some-kept-of : (s : Seen) (time : Micros) (tail : Tail) (xs : List ℕ) → Passed s time tail (length xs) → 0 < rangesKept (reported s) tail (ackDelay s time) (length xs)
+some-kept-of s time tail xs p =
     let d : ℕ = ackDelay s time in
-    let k : ℕ = rangesKept (reported s) d (length xs) in
-    let l = kept-says (reported s) d (length xs) in
+    let k : ℕ = rangesKept (reported s) tail d (length xs) in
+    let l = kept-says (reported s) tail d (length xs) in
     split k 0
     (λ h.
     let f : true ≡ false = sym (p .fitting) ∙ l .above 1 (omega arith) (omega (arith, first-rest (p .begins))) in
     absurd (let z : _≡_ {A = ℕ} 0 1 = cc in omega arith))
     (λ h. h)
 
+pub frame-fits : (s : Seen) (time : Micros) (tail : Tail) (xs : List ℕ) → ackRefusal s time tail (length xs) ≡ 0 → length (ackFrame s time tail (length xs)) ≤ length xs
+frame-fits s time tail xs e =
+    let d : ℕ = ackDelay s time in
+    let k : ℕ = rangesKept (reported s) tail d (length xs) in
+    leb-true (length (frame (reported s) tail d k)) (length xs)
+    (kept-says (reported s) tail d (length xs) .holds (some-kept-of s time tail xs (passed s time tail (length xs) e)))
+
 pub ack-read-back : AckReadBack
 unfolding ackAnswer ackBytes
-ack-read-back s time xs e =
+ack-read-back s time tail xs e =
     let d : ℕ = ackDelay s time in
-    let k : ℕ = rangesKept (reported s) d (length xs) in
-    let z : ackRefusal s time (length xs) ≡ 0 = sym (result-of (ackRefusal s time (length xs)) (ackFrame s time (length xs))) ∙ e in
-    let p = passed s time (length xs) z in
-    let l = kept-says (reported s) d (length xs) in
-    let h : 0 < k = some-kept-of s time xs p in
+    let k : ℕ = rangesKept (reported s) tail d (length xs) in
+    let z : ackRefusal s time tail (length xs) ≡ 0 = sym (result-of (ackRefusal s time tail (length xs)) (ackFrame s time tail (length xs))) ∙ e in
+    let p = passed s time tail (length xs) z in
+    let l = kept-says (reported s) tail d (length xs) in
+    let h : 0 < k = some-kept-of s time tail xs p in
     record {
       first = (h, l .within);
-      fits = leb-true (length (frame (reported s) d k)) (length xs) (l .holds h);
-      most = λ i. leb-false (length (frame (reported s) d (k + 1))) (length xs) (l .above (k + 1) (omega arith) (omega arith));
-      back = λ zs i. rw z (frame-back (p .begins) d k (drop (0 + length (frame (reported s) d k)) xs) zs h (l .within) (delay-small time (time .0 - s .arrived .0) (p .timely) (omega arith)) i);
+      fits = leb-true (length (frame (reported s) tail d k)) (length xs) (l .holds h);
+      most = λ i. leb-false (length (frame (reported s) tail d (k + 1))) (length xs) (l .above (k + 1) (omega arith) (omega arith));
+      back = λ zs i. rw z (frame-back (p .begins) tail d k (drop (0 + length (frame (reported s) tail d k)) xs) zs h (l .within) (delay-small time (time .0 - s .arrived .0) (p .timely) (omega arith)) (p .counted) i);
     }

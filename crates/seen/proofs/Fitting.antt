@@ -3,7 +3,7 @@
 use Prim.Native.Nat.{ℕ, zero, suc, _+_, _-_, _*_, _/_, _≤_, _<_}
 use mathlib.Core.Path.{_≡_, refl, sym, ap, _∙_}
 use mathlib.Core.Bool.{Bool, true, false}
-use mathlib.Core.List.{List, [], _∷_}
+use mathlib.Core.List.{List, [], _∷_, _++_}
 use native.Mathlib.Nat.{eq-or-lt-of-le, zero-add}
 use native.Mathlib.Omega.{arith}
 use mathlib.Core.Logic.{⊎-elim}
@@ -11,10 +11,13 @@ use borrow.Author.Tests.{le-leb, lt-leb}
 use lib.ListN.{length, take, length-append, length-take}
 use Rattle.wire.specs.Numbers.{limit, codeOf, widthOf, firstFrom, encodeAll}
 use Rattle.wire.proofs.Lengths.{split, small-code, code-fits, width-found, width-least, width-le, width-pos}
-use Rattle.wire.proofs.Writing.{length-encode}
-use Rattle.frames.specs.Ack.{ackNumbers}
+use Rattle.wire.proofs.Writing.{length-encode, encode-append}
+use Rattle.frames.specs.declared.Tail.{Tail}
+use Rattle.frames.specs.declared.Tail.the-variants.{Nothing, Counts}
+use Rattle.frames.specs.Ack.{rangeNumbers, typeOf, countsOf}
+use Rattle.frames.proofs.Back.{type-small}
 use Rattle.seen.specs.declared.Seen.{Seen}
-use Rattle.seen.specs.Ack.{numberAt, ranges, numberOfRanges, frame, fits, largestWhere, rangesKept}
+use Rattle.seen.specs.Ack.{numberAt, ranges, numberOfRanges, frame, body, fits, largestWhere, rangesKept}
 use Rattle.seen.proofs.Tests.{by-test}
 use Rattle.seen.proofs.Ranges.{Begun, Bottom, bottom, sizes, missing, top, size, low, missing-le, size-le, size-pos, size-none, run-length, first-top, down, down-none, down-some, few-ranges, fields, fields-zero, fields-some}
 
@@ -36,9 +39,10 @@ pub bytes-none : length (encodeAll []) ≡ 0
 unfolding encodeAll
 bytes-none = refl
 
-type-byte : widthOf 2 ≡ 1
+type-byte : (tail : Tail) → widthOf (typeOf tail) ≡ 1
 unfolding widthOf firstFrom
-type-byte = refl
+type-byte Nothing = refl
+type-byte (Counts ect0 ect1 ce) = refl
 
 zero-byte : widthOf 0 ≡ 1
 unfolding widthOf firstFrom
@@ -62,10 +66,10 @@ module _ {s : Seen} (b : Begun s) where
   pub first-rest : numberOfRanges s ≡ 1 + length (down s (low s 1024)) / 2
   first-rest = omega (arith, ap length first-down)
 
-  pub frame-numbers : (delay k : ℕ) → k < numberOfRanges s
-      → ackNumbers delay (take (2 * suc k) (ranges s)) ≡ 2 ∷ (s .end - 1) ∷ delay ∷ k ∷ (size s 1024 - 1) ∷ fields s k (low s 1024)
-  unfolding ackNumbers
-  frame-numbers delay k h =
+  pub body-numbers : (kind delay k : ℕ) → k < numberOfRanges s
+      → rangeNumbers kind delay (take (2 * suc k) (ranges s)) ≡ kind ∷ (s .end - 1) ∷ delay ∷ k ∷ (size s 1024 - 1) ∷ fields s k (low s 1024)
+  unfolding rangeNumbers
+  body-numbers kind delay k h =
       let e : 2 * suc k ≡ suc (suc (2 * k)) = omega arith in
       let n : length (take (2 * k) (down s (low s 1024))) / 2 ≡ k = rw length-take (omega (arith, first-rest)) in
       let t = first-top b in
@@ -82,17 +86,33 @@ base s delay = 1 + widthOf (s .end - 1) + widthOf delay + widthOf (size s 1024 -
 abbrev pub bytesBelow : Seen → ℕ → ℕ → ℕ
 bytesBelow s n p = length (encodeAll (fields s n p))
 
+-- the bytes of a tail's counts
+abbrev pub bytesOf : Tail → ℕ
+bytesOf tail = length (encodeAll (countsOf tail))
+
+-- the frame is what comes before its counts, and the counts
+pub frame-parts : (s : Seen) (tail : Tail) (delay k : ℕ) → frame s tail delay k ≡ body s (typeOf tail) delay k ++ encodeAll (countsOf tail)
+unfolding frame body
+frame-parts s tail delay k = encode-append (rangeNumbers (typeOf tail) delay (take (2 * k) (ranges s))) (countsOf tail)
+
+pub parts-length : (s : Seen) (tail : Tail) (delay k : ℕ) → length (frame s tail delay k) ≡ length (body s (typeOf tail) delay k) + bytesOf tail
+parts-length s tail delay k = rw (frame-parts, length-append)
+
 module _ {s : Seen} (b : Begun s) (delay : ℕ) (d : delay ≤ limit) where
-  pub frame-length : (k : ℕ) → k < numberOfRanges s → length (frame s delay (suc k)) ≡ widthOf k + (base s delay + bytesBelow s k (low s 1024))
-  unfolding frame
-  frame-length k h =
+  pub tail-length : (tail : Tail) (k : ℕ) → k < numberOfRanges s → length (frame s tail delay (suc k)) ≡ widthOf k + (base s delay + bytesBelow s k (low s 1024)) + bytesOf tail
+  unfolding body
+  tail-length tail k h =
       let l = first-size b in
       let f = few-ranges s in
       let us : List ℕ = fields s k (low s 1024) in
-      let n : length (encodeAll (2 ∷ (s .end - 1) ∷ delay ∷ k ∷ (size s 1024 - 1) ∷ us)) ≡ widthOf k + (base s delay + bytesBelow s k (low s 1024)) =
-      rw (bytes-next 2 _ (omega arith), bytes-next (s .end - 1) _ (omega (arith, b .small)), bytes-next delay _ d, bytes-next k _ (omega arith), bytes-next (size s 1024 - 1) us (omega arith), type-byte)
+      let n : length (encodeAll (typeOf tail ∷ (s .end - 1) ∷ delay ∷ k ∷ (size s 1024 - 1) ∷ us)) ≡ widthOf k + (base s delay + bytesBelow s k (low s 1024)) =
+      rw (bytes-next (typeOf tail) _ (type-small tail), bytes-next (s .end - 1) _ (omega (arith, b .small)), bytes-next delay _ d, bytes-next k _ (omega arith), bytes-next (size s 1024 - 1) us (omega arith), type-byte tail)
       (omega arith) in
-      ap (λ (vs : List ℕ). length (encodeAll vs)) (frame-numbers b delay k h) ∙ n
+      parts-length s tail delay (suc k) ∙ ap (λ (vs : List ℕ). length (encodeAll vs) + bytesOf tail) (body-numbers b (typeOf tail) delay k h) ∙ ap (λ (x : ℕ). x + bytesOf tail) n
+
+  -- without counts
+  pub frame-length : (k : ℕ) → k < numberOfRanges s → length (frame s Nothing delay (suc k)) ≡ widthOf k + (base s delay + bytesBelow s k (low s 1024))
+  frame-length k h = omega (arith, tail-length Nothing k h, bytes-none)
 
   -- a range more
   pub bytes-more : (n p : ℕ) → Bottom s p → 0 < top s p
@@ -103,13 +123,13 @@ module _ {s : Seen} (b : Begun s) (delay : ℕ) (d : delay ≤ limit) where
       rw (fields-some s b n p u h, bytes-next (missing s p - 1) _ (omega (arith, u .below)), bytes-next (size s p - 1) _ (omega (arith, u .below)))
 
   -- no frame is shorter than the one with the first range only
-  pub first-shortest : (k : ℕ) → 0 < k → k ≤ numberOfRanges s → length (frame s delay 1) ≤ length (frame s delay k)
-  first-shortest k h l =
+  pub first-shortest : (tail : Tail) (k : ℕ) → 0 < k → k ≤ numberOfRanges s → length (frame s tail delay 1) ≤ length (frame s tail delay k)
+  first-shortest tail k h l =
       let e : k ≡ suc (k - 1) = omega arith in
       let f = few-ranges s in
       let n : bytesBelow s 0 (low s 1024) ≡ 0 = rw (fields-zero s (low s 1024)) bytes-none in
       omega
-      (arith, ap (λ (x : ℕ). length (frame s delay x)) e, frame-length 0 (omega arith), frame-length (k - 1) (omega arith), zero-byte, width-pos (k - 1) (omega arith))
+      (arith, ap (λ (x : ℕ). length (frame s tail delay x)) e, tail-length tail 0 (omega arith), tail-length tail (k - 1) (omega arith), zero-byte, width-pos (k - 1) (omega arith))
 
 -- ---- the largest that fits
 
@@ -142,17 +162,17 @@ largest-says test (suc all) =
     rw (largestWhere, t)
     (record { holds = r .holds; within = omega (arith, r .within); above = λ j h l. ⊎-elim (λ e. ap test e ∙ t) (λ g. r .above j h (omega arith)) (eq-or-lt-of-le l) }))
 
-module _ (s : Seen) (delay room : ℕ) where
-  pub kept-says : Largest (fits s delay room) (rangesKept s delay room) (numberOfRanges s)
+module _ (s : Seen) (tail : Tail) (delay room : ℕ) where
+  pub kept-says : Largest (fits s tail delay room) (rangesKept s tail delay room) (numberOfRanges s)
   unfolding rangesKept
-  kept-says = largest-says (fits s delay room) (numberOfRanges s)
+  kept-says = largest-says (fits s tail delay room) (numberOfRanges s)
 
-  kept-is : (n : ℕ) → n ≤ numberOfRanges s → (0 < n → length (frame s delay n) ≤ room)
-      → ((j : ℕ) → n < j → j ≤ numberOfRanges s → room < length (frame s delay j)) → n ≡ rangesKept s delay room
+  pub kept-is : (n : ℕ) → n ≤ numberOfRanges s → (0 < n → length (frame s tail delay n) ≤ room)
+      → ((j : ℕ) → n < j → j ≤ numberOfRanges s → room < length (frame s tail delay j)) → n ≡ rangesKept s tail delay room
   unfolding rangesKept
   kept-is n l y f =
-      largest-is (fits s delay room) n (numberOfRanges s) l (λ h. le-leb (length (frame s delay n)) room (y h))
-      (λ j i k. lt-leb (length (frame s delay j)) room (f j i k))
+      largest-is (fits s tail delay room) n (numberOfRanges s) l (λ h. le-leb (length (frame s tail delay n)) room (y h))
+      (λ j i k. lt-leb (length (frame s tail delay j)) room (f j i k))
 
 -- ---- the count, as it goes: `count` ranges down to place p take `bytes` without the range count
 
@@ -166,14 +186,14 @@ pub record Counted (s : Seen) (delay room p bytes count : ℕ) : Type 0 where
 
 module _ {s : Seen} (b : Begun s) (delay room : ℕ) (d : delay ≤ limit) where
   -- not even the first fits
-  pub count-none : room < base s delay + 1 → 0 ≡ rangesKept s delay room
+  pub count-none : room < base s delay + 1 → 0 ≡ rangesKept s Nothing delay room
   count-none h =
-      kept-is s delay room 0 (omega arith) (λ i. absurd (omega arith))
+      kept-is s Nothing delay room 0 (omega arith) (λ i. absurd (omega arith))
       (λ j i k.
       let e : j ≡ suc (j - 1) = omega arith in
       let f = few-ranges s in
       let w = width-pos (j - 1) (omega arith) in
-      omega (arith, ap (λ (x : ℕ). length (frame s delay x)) e, frame-length b delay d (j - 1) (omega arith)))
+      omega (arith, ap (λ (x : ℕ). length (frame s Nothing delay x)) e, frame-length b delay d (j - 1) (omega arith)))
 
   pub count-first : base s delay + 1 ≤ room → Counted s delay room (low s 1024) (base s delay) 1
   count-first h =
@@ -188,33 +208,33 @@ module _ {s : Seen} (b : Begun s) (delay room : ℕ) (d : delay ≤ limit) where
       }
 
   module _ {p bytes count : ℕ} (c : Counted s delay room p bytes count) where
-    counted-fits : length (frame s delay count) ≤ room
+    counted-fits : length (frame s Nothing delay count) ≤ room
     counted-fits =
         let e : count ≡ suc (count - 1) = omega (arith, c .some) in
         let z : count - 1 + 0 ≡ count - 1 = omega arith in
         let n : bytesBelow s 0 p ≡ 0 = rw (fields-zero s p) bytes-none in
         let r = c .rest in
         let i = c .fit in
-        omega (arith, ap (λ (x : ℕ). length (frame s delay x)) e, frame-length b delay d (count - 1) (omega (arith, c .some)), c .sum 0, ap (λ (x : ℕ). bytesBelow s x (low s 1024)) z)
+        omega (arith, ap (λ (x : ℕ). length (frame s Nothing delay x)) e, frame-length b delay d (count - 1) (omega (arith, c .some)), c .sum 0, ap (λ (x : ℕ). bytesBelow s x (low s 1024)) z)
 
     -- no range is left
-    pub count-all : top s p ≡ 0 → count ≡ rangesKept s delay room
+    pub count-all : top s p ≡ 0 → count ≡ rangesKept s Nothing delay room
     count-all e =
         let n = ap length (down-none s p e) in
         let r = c .rest in
-        kept-is s delay room count (omega arith) (λ h. counted-fits) (λ j i k. absurd (omega arith))
+        kept-is s Nothing delay room count (omega arith) (λ h. counted-fits) (λ j i k. absurd (omega arith))
 
     -- the next does not fit, so none with more ranges does
-    pub count-full : 0 < top s p → room < bytes + widthOf (missing s p - 1) + widthOf (size s p - 1) + widthOf count → count ≡ rangesKept s delay room
+    pub count-full : 0 < top s p → room < bytes + widthOf (missing s p - 1) + widthOf (size s p - 1) + widthOf count → count ≡ rangesKept s Nothing delay room
     count-full h g =
         let r = c .rest in
-        kept-is s delay room count (omega arith) (λ i. counted-fits)
+        kept-is s Nothing delay room count (omega arith) (λ i. counted-fits)
         (λ j i k.
         let e : j ≡ suc (j - 1) = omega arith in
         let f = few-ranges s in
         let x : count - 1 + suc (j - 1 - count) ≡ j - 1 = omega (arith, c .some) in
         omega
-        (arith, ap (λ (x : ℕ). length (frame s delay x)) e, frame-length b delay d (j - 1) (omega arith), width-grows count (j - 1) (omega arith) (omega arith), c .sum (suc (j - 1 - count)), ap (λ (x : ℕ). bytesBelow s x (low s 1024)) x, bytes-more b delay d (j - 1 - count) p (c .at) h))
+        (arith, ap (λ (x : ℕ). length (frame s Nothing delay x)) e, frame-length b delay d (j - 1) (omega arith), width-grows count (j - 1) (omega arith) (omega arith), c .sum (suc (j - 1 - count)), ap (λ (x : ℕ). bytesBelow s x (low s 1024)) x, bytes-more b delay d (j - 1 - count) p (c .at) h))
 
     -- the next fits too
     pub count-next : 0 < top s p → bytes + widthOf (missing s p - 1) + widthOf (size s p - 1) + widthOf count ≤ room
@@ -241,7 +261,7 @@ module _ {s : Seen} (b : Begun s) {delay : ℕ} (d : delay ≤ limit) {z w₁ w�
   base-is : 1 + w₁ + w₂ + w₃ ≡ base s delay
   base-is = omega (arith, e₃ ∙ ap (λ (x : ℕ). widthOf (x - 1)) e)
 
-  pub none-fits : {room : ℕ} → room < 1 + w₁ + w₂ + w₃ + 1 → 0 ≡ rangesKept s delay room
+  pub none-fits : {room : ℕ} → room < 1 + w₁ + w₂ + w₃ + 1 → 0 ≡ rangesKept s Nothing delay room
   none-fits {room} h = count-none b delay room d (omega (arith, base-is))
 
   pub first-fits : {room : ℕ} → 1 + w₁ + w₂ + w₃ + 1 ≤ room → Counted s delay room (1024 - z) (1 + w₁ + w₂ + w₃) 1
@@ -250,7 +270,7 @@ module _ {s : Seen} (b : Begun s) {delay : ℕ} (d : delay ≤ limit) {z w₁ w�
 -- m and z are what a step down from p passes and takes
 module _ {s : Seen} (b : Begun s) {delay room : ℕ} (d : delay ≤ limit) {p bytes count : ℕ} (c : Counted s delay room p bytes count)
     {m z : ℕ} (e : m ≡ missing s p) (f : z ≡ size s p) where
-  pub all-fit : z ≡ 0 → count ≡ rangesKept s delay room
+  pub all-fit : z ≡ 0 → count ≡ rangesKept s Nothing delay room
   all-fit n = count-all b delay room d c (size-none s p (sym f ∙ n))
 
   module _ (n : z ≡ 0 → ⊥) where
@@ -267,7 +287,7 @@ module _ {s : Seen} (b : Begun s) {delay room : ℕ} (d : delay ≤ limit) {p by
       size-bytes : w₂ ≡ widthOf (size s p - 1)
       size-bytes = e₂ ∙ ap (λ (x : ℕ). widthOf (x - 1)) f
 
-      pub no-more-fit : room < bytes + w₁ + w₂ + w₃ → count ≡ rangesKept s delay room
+      pub no-more-fit : room < bytes + w₁ + w₂ + w₃ → count ≡ rangesKept s Nothing delay room
       no-more-fit h = count-full b delay room d c some-more (omega (arith, gap-bytes, size-bytes))
 
       pub one-more-fits : bytes + w₁ + w₂ + w₃ ≤ room → Counted s delay room (p - m - z) (bytes + w₁ + w₂) (count + 1)

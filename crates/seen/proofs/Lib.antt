@@ -5,6 +5,7 @@ pub mod Ranges
 pub mod Reported
 pub mod Fitting
 pub mod Storing
+pub mod Counts
 pub mod Written
 pub mod Maximal
 pub mod Emits

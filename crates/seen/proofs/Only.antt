@@ -51,5 +51,5 @@ confirming-one κs given x y s t p q = p ∙ sym q
 pub first-missing-one : OneAnswer 0 first-missing-kinds.ps first-missing-kinds.r first-missing.Post
 first-missing-one κs given x y s t p q = p ∙ sym q
 
-pub write-ack-one : OneBuffer 1 write-ack-kinds.ps write-ack-kinds.r (λ κs s. now (s .1 .1 .0)) write-ack.Post
+pub write-ack-one : OneBuffer 1 write-ack-kinds.ps write-ack-kinds.r (λ κs s. now (s .1 .1 .1 .0)) write-ack.Post
 write-ack-one κs given x y s t p q = (p .0 ∙ sym (q .0), p .1 ∙ sym (q .1))

@@ -3,7 +3,7 @@
 use Prim.Native.Nat.{ℕ, suc, _+_, _-_, _/_, _≤_, _<_}
 use mathlib.Core.Path.{_≡_, refl, sym, ap, _∙_}
 use mathlib.Core.Bool.{true}
-use mathlib.Core.List.{List, [], _∷_, _++_, append-assoc}
+use mathlib.Core.List.{List, [], _∷_, _++_}
 use native.Mathlib.Nat.{add-zero}
 use native.Mathlib.Omega.{arith}
 use borrow.Author.Tests.{le-leb}
@@ -14,18 +14,13 @@ use Rattle.wire.specs.declared.Put.{Put}
 use Rattle.wire.specs.declared.Put.the-variants.{Done}
 use Rattle.wire.proofs.Bytes.{splice-splice}
 use Rattle.wire.proofs.Lengths.{split}
-use Rattle.wire.proofs.Writing.{placed-yes, put-small}
+use Rattle.wire.proofs.Writing.{encode-append, placed-yes, put-small}
 use Rattle.seen.specs.declared.Seen.{Seen}
-use Rattle.seen.specs.Ack.{ranges, numberOfRanges, frame}
+use Rattle.seen.specs.Ack.{ranges, numberOfRanges, body}
 use Rattle.seen.proofs.Ranges.{Begun, Bottom, bottom, sizes, missing, top, size, low, down, down-none, down-some, few-ranges, fields, fields-zero, fields-some}
-use Rattle.seen.proofs.Fitting.{first-low, first-bottom, first-size, first-rest, frame-numbers, bytesBelow}
+use Rattle.seen.proofs.Fitting.{first-low, first-bottom, first-size, first-rest, body-numbers, bytesBelow}
 
 -- ---- numbers vs put at a place, and the numbers us that are still to come
-
-encode-append : (vs us : List ℕ) → encodeAll (vs ++ us) ≡ encodeAll vs ++ encodeAll us
-unfolding encodeAll
-encode-append [] us = refl
-encode-append (v ∷ vs) us = ap (λ (l : List ℕ). encode v ++ l) (encode-append vs us) ∙ sym (append-assoc (encode v) (encodeAll vs) (encodeAll us))
 
 pub small-none : allSmall [] ≡ true
 unfolding allSmall
@@ -50,7 +45,7 @@ module _ (xs : List ℕ) (at : ℕ) (vs us : List ℕ) (small : allSmall vs ≡ 
       let e : putBytes xs at vs ≡ splice xs at (encodeAll vs) = sym (placed-yes xs at (encodeAll vs) within .1 ∙ put-small xs at vs small .1) in
       rw (e, encode-append vs us) (splice-splice xs (encodeAll vs) (encodeAll us) at within)
 
--- ---- the frame, as it is stored: `left` ranges below place p are still to come
+-- ---- the frame up to its counts, as it is stored: `left` ranges below place p are still to come
 
 pub record Storing (s : Seen) (end : ℕ) (zs ys : List ℕ) (at p left : ℕ) : Type 0 where
   pub bottom : Bottom s p
@@ -65,48 +60,48 @@ pub afresh : {s : Seen} {end at p left : ℕ} {zs ys : List ℕ} → Storing s e
 afresh c = record { bottom = c .bottom; some = c .some; room = omega (arith, c .room, c .ends); ends = refl; whole = refl }
 
 -- the numbers before the ranges after the first
-abbrev pub head : Seen → ℕ → ℕ → ℕ → List ℕ
-head s delay count z = 2 ∷ (s .end - 1) ∷ delay ∷ (count - 1) ∷ (z - 1) ∷ []
+abbrev pub head : Seen → ℕ → ℕ → ℕ → ℕ → List ℕ
+head s kind delay count z = kind ∷ (s .end - 1) ∷ delay ∷ (count - 1) ∷ (z - 1) ∷ []
 
-module _ {s : Seen} (b : Begun s) {delay count : ℕ} (d : delay ≤ limit) (c : 0 < count) (l : count ≤ numberOfRanges s)
-    (xs : List ℕ) (room : length (frame s delay count) ≤ length xs) {z : ℕ} (e : z ≡ size s 1024) where
-  whole-frame : frame s delay count ≡ encodeAll (head s delay count z ++ fields s (count - 1) (low s 1024))
-  unfolding frame
-  whole-frame =
+module _ {s : Seen} (b : Begun s) {kind delay count : ℕ} (kept : kind ≤ limit) (d : delay ≤ limit) (c : 0 < count) (l : count ≤ numberOfRanges s)
+    (xs : List ℕ) (room : length (body s kind delay count) ≤ length xs) {z : ℕ} (e : z ≡ size s 1024) where
+  whole-body : body s kind delay count ≡ encodeAll (head s kind delay count z ++ fields s (count - 1) (low s 1024))
+  unfolding body
+  whole-body =
       let n : count ≡ suc (count - 1) = omega arith in
-      ap (λ (k : ℕ). frame s delay k) n ∙ ap encodeAll (frame-numbers b delay (count - 1) (omega arith))
-      ∙ ap (λ (x : ℕ). encodeAll (head s delay count x ++ fields s (count - 1) (low s 1024))) (sym e)
+      ap (λ (k : ℕ). body s kind delay k) n ∙ ap encodeAll (body-numbers b kind delay (count - 1) (omega arith))
+      ∙ ap (λ (x : ℕ). encodeAll (head s kind delay count x ++ fields s (count - 1) (low s 1024))) (sym e)
 
-  head-small : allSmall (head s delay count z) ≡ true
+  head-small : allSmall (head s kind delay count z) ≡ true
   head-small =
       let f = few-ranges s in
       let g = first-size b in
-      small-more 2 _ (omega arith)
+      small-more kind _ kept
       (small-more (s .end - 1) _ (omega (arith, b .small))
       (small-more delay _ d (small-more (count - 1) _ (omega arith) (small-more (z - 1) _ (omega arith) small-none))))
 
-  head-room : 0 + length (encodeAll (head s delay count z ++ fields s (count - 1) (low s 1024))) ≤ length xs
-  head-room = omega (arith, ap length whole-frame)
+  head-room : 0 + length (encodeAll (head s kind delay count z ++ fields s (count - 1) (low s 1024))) ≤ length xs
+  head-room = omega (arith, ap length whole-body)
 
   -- the first put is done
-  pub first-done : {r : Put} → r ≡ putAnswer xs 0 (head s delay count z) → r ≡ Done (0 + length (encodeAll (head s delay count z)))
-  first-done f = f ∙ put-done xs 0 (head s delay count z) (fields s (count - 1) (low s 1024)) head-small head-room
+  pub first-done : {r : Put} → r ≡ putAnswer xs 0 (head s kind delay count z) → r ≡ Done (0 + length (encodeAll (head s kind delay count z)))
+  first-done f = f ∙ put-done xs 0 (head s kind delay count z) (fields s (count - 1) (low s 1024)) head-small head-room
 
-  pub first-stored : {r : Put} {next : ℕ} {ys : List ℕ} → r ≡ putAnswer xs 0 (head s delay count z) → r ≡ Done next
-      → ys ≡ putBytes xs 0 (head s delay count z) → length ys ≡ length xs
-      → Storing s (length (frame s delay count)) (splice xs 0 (frame s delay count)) ys next (1024 - z) (count - 1)
+  pub first-stored : {r : Put} {next : ℕ} {ys : List ℕ} → r ≡ putAnswer xs 0 (head s kind delay count z) → r ≡ Done next
+      → ys ≡ putBytes xs 0 (head s kind delay count z) → length ys ≡ length xs
+      → Storing s (length (body s kind delay count)) (splice xs 0 (body s kind delay count)) ys next (1024 - z) (count - 1)
   first-stored {r} {next} {ys} f g h k =
       let us : List ℕ = fields s (count - 1) (low s 1024) in
-      let q : next ≡ 0 + length (encodeAll (head s delay count z)) = put-place xs 0 (head s delay count z) us head-small head-room r next f g in
+      let q : next ≡ 0 + length (encodeAll (head s kind delay count z)) = put-place xs 0 (head s kind delay count z) us head-small head-room r next f g in
       let p : 1024 - z ≡ low s 1024 = omega (arith, first-low b) in
-      let w = whole-frame in
+      let w = whole-body in
       rw p
       (record {
         bottom = first-bottom b;
         some = omega (arith, first-rest b);
         room = omega arith;
-        ends = omega (arith, ap length w, ap length (encode-append (head s delay count z) us), length-append (encodeAll (head s delay count z)) (encodeAll us));
-        whole = rw (h, q, w) (put-more xs 0 (head s delay count z) us head-small head-room);
+        ends = omega (arith, ap length w, ap length (encode-append (head s kind delay count z) us), length-append (encodeAll (head s kind delay count z)) (encodeAll us));
+        whole = rw (h, q, w) (put-more xs 0 (head s kind delay count z) us head-small head-room);
       })
 
 -- m and z are what a step down from p passes and takes

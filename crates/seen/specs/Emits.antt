@@ -6,6 +6,7 @@ use mathlib.Core.List.{List}
 use lib.ListN.{length, take, getD}
 use Rattle.wire.specs.Bytes.{splice}
 use Rattle.frames.specs.Ack.{readAck}
+use Rattle.frames.specs.declared.Tail.{Tail}
 use Rattle.frames.specs.declared.Ack.the-variants.{Frame}
 use Rattle.seen.specs.declared.Micros.{Micros}
 use Rattle.seen.specs.declared.Seen.{Seen}
@@ -44,17 +45,17 @@ RangesAreRuns = (s : Seen) → seenConsistent s ≡ true → 0 < s .end → Maxi
 -- ---- what is written, the ACK reader reads back
 
 -- an accepted write to xs leaves ys, n bytes of it the frame: k is how many ranges it keeps, and zs a lent slice that has room for them
-pub record Emits (s : Seen) (time : Micros) (xs ys : List ℕ) (n k : ℕ) : Type 0 where
+pub record Emits (s : Seen) (time : Micros) (tail : Tail) (xs ys : List ℕ) (n k : ℕ) : Type 0 where
   -- "the first range is always there"
   pub first : (0 < k) × (k ≤ numberOfRanges (reported s))
   -- "as many [..] as fit": one range more, if there is one, would not have fitted
-  pub fits : length (frame (reported s) (ackDelay s time) k) ≤ length xs
-  pub most : k < numberOfRanges (reported s) → length xs < length (frame (reported s) (ackDelay s time) (k + 1))
-  -- "an ACK with largest L", the delay and exactly the k newest ranges
+  pub fits : length (frame (reported s) tail (ackDelay s time) k) ≤ length xs
+  pub most : k < numberOfRanges (reported s) → length xs < length (frame (reported s) tail (ackDelay s time) (k + 1))
+  -- "an ACK with largest L", the delay, exactly the k newest ranges and the tail
   pub back : (zs : List ℕ) → 2 * k ≤ length zs
-      → readAck ys zs ≡ record { answer = Frame (s .end - 1) (ackDelay s time) k n; slice = splice zs 0 (take (2 * k) (ranges (reported s))) }
+      → readAck ys zs ≡ record { answer = Frame (s .end - 1) (ackDelay s time) k n tail; slice = splice zs 0 (take (2 * k) (ranges (reported s))) }
 
 abbrev pub AckReadBack : Type 0
 AckReadBack =
-    (s : Seen) (time : Micros) (xs : List ℕ) → ackAnswer s time xs .result ≡ 0
-    → Emits s time xs (ackBytes s time xs) (ackAnswer s time xs .length) (rangesKept (reported s) (ackDelay s time) (length xs))
+    (s : Seen) (time : Micros) (tail : Tail) (xs : List ℕ) → ackAnswer s time tail xs .result ≡ 0
+    → Emits s time tail xs (ackBytes s time tail xs) (ackAnswer s time tail xs .length) (rangesKept (reported s) tail (ackDelay s time) (length xs))

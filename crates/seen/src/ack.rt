@@ -1,18 +1,21 @@
-// The ACK frame of as many newest ranges of the window as fit the lent buffer.
+// The ACK frame of as many newest ranges of the window as fit the lent buffer, and its counts (02, No. 2).
 ghost use mathlib.Core.Path.{_≡_};
 ghost use mathlib.Core.Bool.{true, false};
-ghost use Prim.Native.Nat.{_-_, _^_, _≤_, _<_};
+ghost use Prim.Native.Nat.{_+_, _-_, _^_, _≤_, _<_};
 ghost use lib.ListN.{length};
-ghost use Rattle.wire.specs.Numbers.{limit};
+ghost use Rattle.wire.specs.Numbers.{limit, encodeAll, allSmall};
+ghost use Rattle.frames.specs.Ack.{typeOf, countsOf};
+ghost use Rattle.frames.specs.declared.Tail.the-variants.{Nothing};
 ghost use Rattle.wire.specs.Bytes.{splice};
 ghost use Rattle.window.specs.Window.{places, valueOf, lentValue, runBelow};
 ghost use Rattle.seen.specs.Numbers.{small};
 ghost use Rattle.seen.specs.Received.{marksFit, seenConsistent};
-ghost use Rattle.seen.specs.Ack.{numberOfRanges, frame, rangesKept, marksAnswer, marksBytes, ackAnswer, ackBytes};
+ghost use Rattle.seen.specs.Ack.{numberOfRanges, body, rangesKept, marksAnswer, marksBytes, ackAnswer, ackBytes};
 use crate::Acked;
 use crate::Micros;
 use crate::Seen;
 use crate::numbers;
+use frames::Tail;
 use wire::Put;
 
 // A range by its size, and by how many numbers are missing between it and the place above; of size 0 where there is none.
@@ -44,6 +47,73 @@ fn runs_fit(words: &[u64; 16], end: u64) -> bool
     window::run_below(words, window::PLACES, false) == 0
 }
 
+// The type of a frame with that tail (RFC 9000 19.3).
+fn type_of(tail: Tail) -> u64
+    ensures { λ r. ⌜ r ≡ typeOf tail ⌝ }
+{
+    match tail {
+        Tail::Nothing => 2,
+        Tail::Counts {
+            ect0: _,
+            ect1: _,
+            ce: _,
+        } => 3,
+    }
+}
+
+// Whether a tail's counts obey 5.
+fn counts_obey(tail: Tail) -> bool
+    ensures { λ r. ⌜ r ≡ allSmall (countsOf tail) ⌝ }
+{
+    match tail {
+        Tail::Nothing => true,
+        Tail::Counts { ect0, ect1, ce } => {
+            if !numbers::is_small(ect0) {
+                return false;
+            }
+            if !numbers::is_small(ect1) {
+                return false;
+            }
+            numbers::is_small(ce)
+        }
+    }
+}
+
+// The room of which a tail's counts leave so much for what comes before them.
+fn room_before(tail: Tail, room: usize) -> usize
+    requires { ⌜ allSmall (countsOf tail) ≡ true ⌝ }
+    ensures { λ r. ⌜ r ≡ room - length (encodeAll (countsOf tail)) ⌝ }
+{
+    match tail {
+        Tail::Nothing => room,
+        Tail::Counts { ect0, ect1, ce } => {
+            let bytes = wire::width(ect0) + wire::width(ect1) + wire::width(ce);
+            if room < bytes {
+                return 0;
+            }
+            room - bytes
+        }
+    }
+}
+
+// Writes a tail's counts at a place, and answers the place after them.
+fn put_counts(tail: Tail, at: usize, buf: &mut [u8]) -> usize
+    requires { ⌜ (allSmall (countsOf tail) ≡ true) × (at + length (encodeAll (countsOf tail)) ≤ length (now buf)) ⌝ }
+    ensures { λ r. ⌜ (r ≡ at + length (encodeAll (countsOf tail))) × (now (buf .exit) ≡ splice (now (buf .entry)) at (encodeAll (countsOf tail))) ⌝ }
+{
+    match tail {
+        Tail::Nothing => at,
+        Tail::Counts { ect0, ect1, ce } => {
+            // ECT(0), ECT(1), CE (RFC 9000 19.3.2).
+            let counts = [ect0, ect1, ce];
+            let Put::Done { next } = wire::put_numbers(buf, at, &counts) else {
+                return 0;
+            };
+            next
+        }
+    }
+}
+
 impl Seen {
     // Whether what was received is consistent, told by runs: the words are lent, and not copied as `consistent` would have to.
     fn consistent_by_runs(self) -> bool
@@ -65,7 +135,7 @@ impl Seen {
     // How many of the newest ranges fit the room: 0 where not even the first does, which has `first` numbers.
     fn ranges_kept(self, first: u64, delay: u64, room: usize) -> u64
         requires { ⌜ (seenConsistent self ≡ true) × (0 < self .end) × (delay ≤ limit) × (room < 2 ^ 63) × (first ≡ runBelow true places (valueOf (self .window))) ⌝ }
-        ensures { λ r. ⌜ r ≡ rangesKept self delay room ⌝ }
+        ensures { λ r. ⌜ r ≡ rangesKept self Nothing delay room ⌝ }
     {
         // No place below that of number 0 is marked.
         let none_below = numbers::minus_or_zero(window::PLACES, self.end);
@@ -92,13 +162,13 @@ impl Seen {
         count
     }
 
-    // Writes the frame with the count newest ranges, and answers its length.
-    fn store(self, first: u64, delay: u64, count: u64, buf: &mut [u8]) -> usize
-        requires { ⌜ (seenConsistent self ≡ true) × (0 < self .end) × (delay ≤ limit) × (0 < count) × (count ≤ numberOfRanges self) × (length (frame self delay count) ≤ length (now buf)) × (first ≡ runBelow true places (valueOf (self .window))) ⌝ }
-        ensures { λ r. ⌜ (r ≡ length (frame self delay count)) × (now (buf .exit) ≡ splice (now (buf .entry)) 0 (frame self delay count)) ⌝ }
+    // Writes the frame with the count newest ranges up to its counts, and answers the place after them.
+    fn store(self, kind: u64, first: u64, delay: u64, count: u64, buf: &mut [u8]) -> usize
+        requires { ⌜ (seenConsistent self ≡ true) × (0 < self .end) × (delay ≤ limit) × (0 < count) × (count ≤ numberOfRanges self) × (length (body self kind delay count) ≤ length (now buf)) × (first ≡ runBelow true places (valueOf (self .window))) × (kind ≤ limit) ⌝ }
+        ensures { λ r. ⌜ (r ≡ length (body self kind delay count)) × (now (buf .exit) ≡ splice (now (buf .entry)) 0 (body self kind delay count)) ⌝ }
     {
-        // Type 02, largest, delay, range count, first range (RFC 9000 19.3).
-        let fields = [2, self.end - 1, delay, count - 1, first - 1];
+        // Type, largest, delay, range count, first range (RFC 9000 19.3).
+        let fields = [kind, self.end - 1, delay, count - 1, first - 1];
         let Put::Done { next } = wire::put_numbers(buf, 0, &fields) else {
             return 0;
         };
@@ -120,26 +190,28 @@ impl Seen {
     }
 
     // Writes the ACK frame of all its marks, as many newest ranges as fit; 9 where not even the first does.
-    fn write_marks(self, time: Micros, buf: &mut [u8]) -> Acked
-        requires { ⌜ (seenConsistent self ≡ true) × (0 < self .end) × (small (time .0) ≡ true) ⌝ }
-        ensures { λ r. ⌜ (r ≡ marksAnswer self time (now (buf .entry))) × (now (buf .exit) ≡ marksBytes self time (now (buf .entry))) ⌝ }
+    fn write_marks(self, time: Micros, tail: Tail, buf: &mut [u8]) -> Acked
+        requires { ⌜ (seenConsistent self ≡ true) × (0 < self .end) × (small (time .0) ≡ true) × (allSmall (countsOf tail) ≡ true) ⌝ }
+        ensures { λ r. ⌜ (r ≡ marksAnswer self time tail (now (buf .entry))) × (now (buf .exit) ≡ marksBytes self time tail (now (buf .entry))) ⌝ }
     {
         let delay = numbers::minus_or_zero(time.0, self.arrived.0) / 8;
         let first = self.first_size();
-        let count = self.ranges_kept(first, delay, buf.len());
+        let room = room_before(tail, buf.len());
+        let count = self.ranges_kept(first, delay, room);
         if count == 0 {
             return Acked::refused(9);
         }
-        let length = self.store(first, delay, count, buf);
+        let end = self.store(type_of(tail), first, delay, count, buf);
+        let length = put_counts(tail, end, buf);
         Acked {
             result: 0,
             length: length as u64,
         }
     }
 
-    // Writes an ACK frame at the start of buf. Due or not, it is allowed once something was received.
-    pub fn write_ack(self, time: Micros, buf: &mut [u8]) -> Acked
-        ensures { λ r. ⌜ (r ≡ ackAnswer self time (now (buf .entry))) × (now (buf .exit) ≡ ackBytes self time (now (buf .entry))) ⌝ }
+    // Writes an ACK frame with that tail at the start of buf. Due or not, it is allowed once something was received.
+    pub fn write_ack(self, time: Micros, tail: Tail, buf: &mut [u8]) -> Acked
+        ensures { λ r. ⌜ (r ≡ ackAnswer self time tail (now (buf .entry))) × (now (buf .exit) ≡ ackBytes self time tail (now (buf .entry))) ⌝ }
     {
         if !self.consistent_by_runs() {
             return Acked::refused(1);
@@ -147,14 +219,17 @@ impl Seen {
         if !numbers::is_small(time.0) {
             return Acked::refused(5);
         }
+        if !counts_obey(tail) {
+            return Acked::refused(5);
+        }
         if self.end == 0 {
             return Acked::refused(8);
         }
         // Where the window's own floor is the larger, every mark is reported, and the window is not copied.
         if self.confirmed <= numbers::minus_or_zero(self.end, window::PLACES) {
-            return self.write_marks(time, buf);
+            return self.write_marks(time, tail, buf);
         }
-        self.reported().write_marks(time, buf)
+        self.reported().write_marks(time, tail, buf)
     }
 }
 

@@ -1,6 +1,8 @@
 // One line for each call: what it is given, and what it answers.
 // A room is at most the buffer that it is taken from: io::count keeps it within.
 use crate::show;
+use receiver::Kind;
+use receiver::Mark;
 use receiver::Receiver;
 use seen::Micros;
 
@@ -202,19 +204,58 @@ pub fn threshold(
     next
 }
 
+fn mark_of(ce: bool) -> Mark {
+    if ce {
+        return Mark::Ce;
+    }
+    Mark::None
+}
+
+// A packet with that mark at time 0, and the four totals after it.
+pub fn marked(receiver: Receiver, number: u64, eliciting: bool, mark: Mark) -> Receiver {
+    show::count(b"packet ", number);
+    let answer = receiver.packet(number, Micros(0), eliciting, mark);
+    let next = answer.next;
+    let totals = next.totals;
+    show::count(b": result ", answer.result);
+    show::count(b", totals ", totals.ect0);
+    show::count(b" ", totals.ect1);
+    show::count(b" ", totals.ce);
+    show::count(b" ", totals.unmarked);
+    show::text(b"\n");
+    next
+}
+
+fn write_counts(receiver: Receiver, buf: &mut [u8]) {
+    show::count(b"write 03, room ", buf.len() as u64);
+    let wrote = receiver.write(Micros(0), Kind::Counts, buf);
+    show::count(b": result ", wrote.result);
+    show::count(b", length ", wrote.length);
+    show::text(b"; buffer");
+    show::bytes(buf);
+    show::text(b"\n");
+}
+
+// An ACK of type 03 in a room of at most twelve bytes.
+pub fn write_counts_in(receiver: Receiver, room: isize) {
+    let mut buf = [0xeeu8; 12];
+    let n = io::count(room, &buf);
+    write_counts(receiver, &mut buf[..n]);
+}
+
 // An ack-eliciting packet at time 0, the cause after it, and then a write.
 pub fn packet(receiver: Receiver, number: u64, ce: bool) -> Receiver {
     show::count(b"packet ", number);
     if ce {
         show::text(b" CE");
     }
-    let answer = receiver.packet(number, Micros(0), true, ce);
+    let answer = receiver.packet(number, Micros(0), true, mark_of(ce));
     let next = answer.next;
     show::count(b": result ", answer.result);
     show::count(b", cause ", next.cause);
     show::text(b"\n");
     let mut room = [0u8; 32];
-    let wrote = next.write(Micros(0), &mut room);
+    let wrote = next.write(Micros(0), Kind::Plain, &mut room);
     wrote.next
 }
 
@@ -227,7 +268,7 @@ pub fn confirm(receiver: Receiver, largest: u64) -> Receiver {
     show::count(b": result ", answer.result);
     show::count(b", floor ", seen.confirmed);
     let mut room = [0xeeu8; 7];
-    next.write(Micros(0), &mut room);
+    next.write(Micros(0), Kind::Plain, &mut room);
     show::text(b"; a write leaves");
     show::bytes(&room);
     show::text(b"\n");

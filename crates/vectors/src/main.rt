@@ -5,6 +5,7 @@ mod calls;
 mod show;
 
 use calls::Reader;
+use receiver::Mark;
 use receiver::Millis;
 use receiver::Receiver;
 use seen::Micros;
@@ -126,6 +127,7 @@ fn types() {
     every_reader(b"\x80\x00\x00\xaf");
     every_reader(b"\xaf");
     every_reader(b"\x03");
+    every_reader(b"\x40\x03");
 }
 
 fn ack_read() {
@@ -158,6 +160,23 @@ fn ack_before_room() {
     calls::read_ack0(b"\x02\x05\x00\x01\x04\x02");
     calls::read_ack0(b"\x02\x05\x00\xff\xff\xff\xff\xff\xff\xff\xff\x05");
     calls::read_ack0(b"\x02\x05\x00\xff\xff\xff\xff\xff\xff\xff\xff\x05\x00");
+}
+
+// 02, No. 2: type 03 is the frame of type 02 with the counts ECT(0), ECT(1), CE after it.
+fn ack_counts() {
+    show::text(
+        b"\nACK of type 03 is read, with counts of one, two and four bytes, cut at every byte\n",
+    );
+    calls::cuts(
+        Reader::Ack,
+        b"\x03\x05\x00\x01\x02\x00\x01\x05\x40\x40\x80\x00\x40\x00",
+    );
+    show::text(
+        b"\nA count of eight bytes, one in a longer form; 2 inside the counts comes before 9\n",
+    );
+    calls::read_ack5(b"\x03\x05\x00\x00\x05\xff\xff\xff\xff\xff\xff\xff\xff\x00\x40\x07");
+    calls::read_ack0(b"\x03\x05\x00\x00\x05\x01\x02\x03");
+    calls::read_ack0(b"\x03\x05\x00\x00\x05\x01\x02");
 }
 
 fn frames_written() {
@@ -233,6 +252,25 @@ fn confirmations() {
     calls::confirm(later, 7);
 }
 
+// 02, No. 2: both kinds of packets count, a refused one does not, and the counts take room.
+fn counts_written() {
+    show::text(
+        b"\nPackets marked ECT(0), ECT(1), CE and not at all; an ACK of type 03 in each room\n",
+    );
+    let opened = Receiver::open(1000, 3, Millis(25), Micros(1000));
+    let zero = calls::marked(opened.next, 0, true, Mark::Ect0);
+    let one = calls::marked(zero, 1, false, Mark::Ect0);
+    let again = calls::marked(one, 1, true, Mark::Ce);
+    let three = calls::marked(again, 3, true, Mark::Ce);
+    let four = calls::marked(three, 4, true, Mark::Ect1);
+    let five = calls::marked(four, 5, true, Mark::None);
+    calls::write_counts_in(five, 7);
+    calls::write_counts_in(five, 8);
+    calls::write_counts_in(five, 9);
+    calls::write_counts_in(five, 10);
+    calls::write_counts_in(five, 12);
+}
+
 fn main() {
     head();
     published_read();
@@ -248,8 +286,10 @@ fn main() {
     ack_read();
     ack_below_zero();
     ack_before_room();
+    ack_counts();
     frames_written();
     thresholds_heard();
     congestion();
     confirmations();
+    counts_written();
 }

@@ -2,6 +2,7 @@
 use frames::Ack;
 use frames::Frequency;
 use frames::Immediate;
+use frames::Tail;
 use receiver::Agreed;
 use receiver::Verdict;
 use wire::Fixed;
@@ -122,6 +123,18 @@ pub fn immediate(answer: Immediate) {
     text(b"\n");
 }
 
+// The counts of an ACK frame of type 03: ECT(0), ECT(1), CE.
+fn counts(tail: Tail) {
+    match tail {
+        Tail::Nothing => {}
+        Tail::Counts { ect0, ect1, ce } => {
+            count(b", counts ", ect0);
+            count(b" ", ect1);
+            count(b" ", ce);
+        }
+    }
+}
+
 // What the ACK reader answers, and the slice that it leaves.
 pub fn ack(answer: Ack, slice: &[u64]) {
     match answer {
@@ -130,11 +143,13 @@ pub fn ack(answer: Ack, slice: &[u64]) {
             delay,
             ranges,
             used,
+            tail,
         } => {
             count(b": largest ", largest);
             count(b", delay ", delay);
             count(b", ranges ", ranges);
             count(b", length ", used as u64);
+            counts(tail);
         }
         _ => count(b": refused ", answer.refusal()),
     }

@@ -2,15 +2,15 @@
 -- Assumes nothing.
 use borrow.Author.Tests.{ne-eqb}
 use borrow.Author.Needs.{needs}
-use Rattle.events.specs.Events.{eventCall}
+use Rattle.events.specs.Events.{ecnMark, eventCall}
 use Rattle.events.proofs.Event.call.Statement.{statement}
 use Rattle.events.proofs.Event.call.Tie as tie
 
 is-eliciting-requires : tie.Need-is-eliciting-requires
 is-eliciting-requires c κs = search needs
 
-is-marked-requires : tie.Need-is-marked-requires
-is-marked-requires c κs = search needs
+ecn-mark-requires : tie.Need-ecn-mark-requires
+ecn-mark-requires c κs = search needs
 
 packet-requires : tie.Need-packet-requires
 packet-requires c κs = search needs
@@ -25,10 +25,10 @@ immediate-requires : tie.Need-immediate-requires
 immediate-requires c κs = search needs
 
 returns : tie.Need-returns
-unfolding eventCall
+unfolding eventCall ecnMark
 returns c =
     let m = c .before in
-    rw (m .before .before .match .keys1, ← m .before .is-eliciting .ensures, ← m .is-marked .ensures) (c .packet .ensures)
+    rw (m .before .before .match .keys1) (rw (m .before .is-eliciting .ensures, m .ecn-mark .ensures) at (c .packet .ensures))
 
 returns-2 : tie.Need-returns-2
 unfolding eventCall
@@ -53,7 +53,7 @@ call-spec =
     tie.close
     (tie.spec
     is-eliciting-requires
-    is-marked-requires
+    ecn-mark-requires
     packet-requires
     timer-requires
     write-requires

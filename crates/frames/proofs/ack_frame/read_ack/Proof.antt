@@ -1,7 +1,8 @@
 -- `frames::ack_frame::read_ack` meets its contract: one step of the definition for each field and each test, then the law of its ranges.
 -- Assumes nothing.
+use mathlib.Core.Path.{sym, _∙_}
 use Rattle.wire.proofs.Reading.{stop, next}
-use Rattle.frames.specs.Types.{ackType}
+use Rattle.frames.specs.Types.{ackTypes}
 use Rattle.frames.specs.Ack.{readRanges}
 use Rattle.frames.proofs.Types.{type-cut, type-other, type-longer, type-right}
 use Rattle.frames.proofs.Answers.{both, joined}
@@ -20,18 +21,23 @@ enum-known-kind c = search needs
 enum-told : tie.Need-enum-told
 enum-told c = search needs
 
+is-ack-requires : tie.Need-is-ack-requires
+is-ack-requires c κs = search needs
+
 returns : tie.Need-returns
-returns c = both (type-cut ackType _ _ _ _ (c .before .before .read-number .ensures) (c .enum-told .given .1))
+returns c = both (type-cut ackTypes _ _ _ _ (c .before .before .read-number .ensures) (c .enum-told .given .1))
 
 returns-2 : tie.Need-returns-2
 returns-2 c =
-    let k = c .before .before in
-    both (type-other ackType _ _ _ _ (k .before .before .read-number .ensures) (k .kind .given .1) (c .if1 .taken))
+    let i = c .before in
+    let k = i .before .before in
+    both (type-other ackTypes _ _ _ _ (k .before .before .read-number .ensures) (k .kind .given .1) (sym (i .is-ack .ensures) ∙ not-true _ (c .if1 .taken)))
 
 returns-3 : tie.Need-returns-3
 returns-3 c =
-    let k = c .before .before .before in
-    both (type-longer ackType _ _ _ _ (k .before .before .read-number .ensures) (k .kind .given .1) (c .before .if1 .left) (not-true _ (c .if2 .taken)))
+    let i = c .before .before in
+    let k = i .before .before in
+    both (type-longer ackTypes _ _ _ _ (k .before .before .read-number .ensures) (k .kind .given .1) (sym (i .is-ack .ensures) ∙ not-false _ (c .before .if1 .left)) (not-true _ (c .if2 .taken)))
 
 read-number-requires-2 : tie.Need-read-number-requires-2
 read-number-requires-2 c κs = search needs
@@ -45,9 +51,10 @@ enum-told-2 c = search needs
 returns-4 : tie.Need-returns-4
 returns-4 c =
     let t = c .before .before .before in
-    let k = t .before .before .before in
+    let i = t .before .before in
+    let k = i .before .before in
     both
-    (type-right ackType _ _ _ _ (k .before .before .read-number .ensures) (k .kind .given .1) (t .before .if1 .left) (not-false _ (t .if2 .left))
+    (type-right ackTypes _ _ _ _ (k .before .before .read-number .ensures) (k .kind .given .1) (sym (i .is-ack .ensures) ∙ not-false _ (t .before .if1 .left)) (not-false _ (t .if2 .left))
     (stop _ _ (c .enum-told2 .given .1) (c .before .before .read-number2 .ensures)))
 
 read-number-requires-3 : tie.Need-read-number-requires-3
@@ -63,9 +70,10 @@ returns-5 : tie.Need-returns-5
 returns-5 c =
     let k1 = c .before .before .before .before in
     let t = k1 .before .before .before in
-    let k = t .before .before .before in
+    let i = t .before .before in
+    let k = i .before .before in
     both
-    (type-right ackType _ _ _ _ (k .before .before .read-number .ensures) (k .kind .given .1) (t .before .if1 .left) (not-false _ (t .if2 .left))
+    (type-right ackTypes _ _ _ _ (k .before .before .read-number .ensures) (k .kind .given .1) (sym (i .is-ack .ensures) ∙ not-false _ (t .before .if1 .left)) (not-false _ (t .if2 .left))
     (next _ _ (k1 .largest .given .1) (k1 .before .before .read-number2 .ensures)
     (stop _ _ (c .enum-told3 .given .1) (c .before .before .read-number3 .ensures))))
 
@@ -83,9 +91,10 @@ returns-6 c =
     let k2 = c .before .before .before .before in
     let k1 = k2 .before .before .before .before in
     let t = k1 .before .before .before in
-    let k = t .before .before .before in
+    let i = t .before .before in
+    let k = i .before .before in
     both
-    (type-right ackType _ _ _ _ (k .before .before .read-number .ensures) (k .kind .given .1) (t .before .if1 .left) (not-false _ (t .if2 .left))
+    (type-right ackTypes _ _ _ _ (k .before .before .read-number .ensures) (k .kind .given .1) (sym (i .is-ack .ensures) ∙ not-false _ (t .before .if1 .left)) (not-false _ (t .if2 .left))
     (next _ _ (k1 .largest .given .1) (k1 .before .before .read-number2 .ensures)
     (next _ _ (k2 .delay .given .1) (k2 .before .before .read-number3 .ensures)
     (stop _ _ (c .enum-told4 .given .1) (c .before .before .read-number4 .ensures)))))
@@ -103,13 +112,14 @@ returns-7 c =
     let k2 = k3 .before .before .before .before in
     let k1 = k2 .before .before .before .before in
     let t = k1 .before .before .before in
-    let k = t .before .before .before in
+    let i = t .before .before in
+    let k = i .before .before in
     both
-    (type-right ackType _ _ _ _ (k .before .before .read-number .ensures) (k .kind .given .1) (t .before .if1 .left) (not-false _ (t .if2 .left))
+    (type-right ackTypes _ _ _ _ (k .before .before .read-number .ensures) (k .kind .given .1) (sym (i .is-ack .ensures) ∙ not-false _ (t .before .if1 .left)) (not-false _ (t .if2 .left))
     (next _ _ (k1 .largest .given .1) (k1 .before .before .read-number2 .ensures)
     (next _ _ (k2 .delay .given .1) (k2 .before .before .read-number3 .ensures)
     (next _ _ (k3 .count .given .1) (k3 .before .before .read-number4 .ensures)
-    (joined {x = readRanges _ _ _ _ _ _} (r .read-ranges .ensures .0) (r .read-ranges .ensures .1))))))
+    (joined {x = readRanges _ _ _ _ _ _ _} (r .read-ranges .ensures .0) (r .read-ranges .ensures .1))))))
 
 pub read-ack-spec : {M : Type 1} → statement M
 read-ack-spec =
@@ -119,6 +129,7 @@ read-ack-spec =
     enum-known-kind
     enum-told
     returns
+    is-ack-requires
     returns-2
     returns-3
     read-number-requires-2

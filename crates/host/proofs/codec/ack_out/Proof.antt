@@ -11,6 +11,9 @@ refusal-requires c κs = search needs
 enum-known-answer : tie.Need-enum-known-answer
 enum-known-answer c = search needs
 
+counts-out-requires : tie.Need-counts-out-requires
+counts-out-requires c κs = search needs
+
 enum-told : tie.Need-enum-told
 enum-told c = search needs
 
@@ -37,7 +40,7 @@ no-ack-requires-4 c κs = search needs
 
 returns : tie.Need-returns
 unfolding ackOut
-returns c = rw (c .before .before .before .refusal .ensures, c .before .answer .given .1)
+returns c = rw (c .counts-out .ensures, c .before .before .before .before .refusal .ensures, c .before .before .answer .given .1)
 
 returns-2 : tie.Need-returns-2
 unfolding ackOut
@@ -61,6 +64,7 @@ ack-out-spec =
     (tie.spec
     refusal-requires
     enum-known-answer
+    counts-out-requires
     enum-told
     no-ack-requires
     enum-told-2

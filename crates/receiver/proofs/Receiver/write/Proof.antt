@@ -17,8 +17,11 @@ returns : tie.Need-returns
 returns c =
     let i = c .before in
     let a = i .before .before .before .args in
-    let w = refused-first (a .self) (a .time) (a .buf .now) (failed (i .before .rest-consistent .ensures) (i .if1 .taken)) in
+    let w = refused-first (a .self) (a .time) (a .kind) (a .buf .now) (failed (i .before .rest-consistent .ensures) (i .if1 .taken)) in
     (c .refused .ensures ∙ w .0, w .1)
+
+said-requires : tie.Need-said-requires
+said-requires c κs = search needs
 
 write-ack-requires : tie.Need-write-ack-requires
 write-ack-requires c κs = search needs
@@ -33,9 +36,10 @@ returns-2 : tie.Need-returns-2
 returns-2 c =
     let i = c .before in
     let k = i .before .before .before .before in
-    let s = k .before .before .before in
+    let d = k .before .before in
+    let s = d .before .before .before in
     let a = s .before .before .before .args in
-    let w = wrote-refusal (a .self) (a .time) (a .buf .now) (held (s .before .rest-consistent .ensures) (s .if1 .left)) (k .write-ack .ensures .0) (k .write-ack .ensures .1) (i .if2 .taken) in
+    let w = wrote-refusal (a .self) (a .time) (a .kind) (a .buf .now) (held (s .before .rest-consistent .ensures) (s .if1 .left)) (rw (d .said .ensures) at (k .write-ack .ensures .0)) (rw (d .said .ensures) at (k .write-ack .ensures .1)) (i .if2 .taken) in
     (c .refused2 .ensures ∙ w .0, w .1)
 
 after-write-requires : tie.Need-after-write-requires
@@ -48,9 +52,10 @@ returns-3 : tie.Need-returns-3
 returns-3 c =
     let i = c .before in
     let k = i .before .before .before .before in
-    let s = k .before .before .before in
+    let d = k .before .before in
+    let s = d .before .before .before in
     let a = s .before .before .before .args in
-    wrote-frame (a .self) (a .time) (a .buf .now) (held (s .before .rest-consistent .ensures) (s .if1 .left)) (k .write-ack .ensures .0) (k .write-ack .ensures .1) (c .after-write .ensures) (i .if2 .left)
+    wrote-frame (a .self) (a .time) (a .kind) (a .buf .now) (held (s .before .rest-consistent .ensures) (s .if1 .left)) (rw (d .said .ensures) at (k .write-ack .ensures .0)) (rw (d .said .ensures) at (k .write-ack .ensures .1)) (c .after-write .ensures) (i .if2 .left)
 
 pub write-spec : {M : Type 1} → statement M
 write-spec =
@@ -59,6 +64,7 @@ write-spec =
     rest-consistent-requires
     refused-requires
     returns
+    said-requires
     write-ack-requires
     refused-requires-2
     same-length

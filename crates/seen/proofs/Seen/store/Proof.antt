@@ -1,4 +1,4 @@
--- `seen::Seen::store` meets its contract. The loop's invariant: the ranges still to come, laid over the buffer, give the whole frame.
+-- `seen::Seen::store` meets its contract. The loop's invariant: the ranges still to come, laid over the buffer, give the whole.
 -- Assumes nothing.
 use Prim.Native.Nat.{ℕ, _+_, _-_, _≤_, _<_}
 use mathlib.Core.Path.{_≡_, refl, _∙_}
@@ -10,7 +10,7 @@ use mir.Syntax.{w64}
 use lib.ListN.{length, getD}
 use Rattle.wire.specs.Bytes.{splice}
 use Rattle.wire.specs.Numbers.{encodeAll}
-use Rattle.seen.specs.Ack.{frame}
+use Rattle.seen.specs.Ack.{body}
 use Rattle.window.proofs.Sixteen.{Sixteen}
 use Rattle.seen.proofs.Ranges.{Begun, begun, missing, size, ranged, first-is, fields}
 use Rattle.seen.proofs.Fitting.{bytesBelow, first-size}
@@ -19,11 +19,11 @@ use Rattle.seen.proofs.Seen.store.Statement.{statement}
 use Rattle.seen.proofs.Seen.store.Tie as tie
 
 abbrev Inv-loop : tie.InvT-loop
-Inv-loop first delay count buf₀ self next at₀ low₀ left₀ buf at low left =
+Inv-loop kind first delay count buf₀ self next at₀ low₀ left₀ buf at low left =
     (length buf ≡ length buf₀) × Storing self (at₀ + bytesBelow self left₀ low₀) (splice buf₀ at₀ (encodeAll (fields self left₀ low₀))) buf at low left
 
 abbrev μ-loop : tie.MeasureT-loop
-μ-loop first delay count buf₀ self next at₀ low₀ left₀ buf at low left = left
+μ-loop kind first delay count buf₀ self next at₀ low₀ left₀ buf at low left = left
 
 started : (c : tie.Start Inv-loop μ-loop) → Begun (c .args .t1)
 started c = begun (c .args .t1) (c .pre .0) (c .pre .1)
@@ -55,13 +55,13 @@ another c =
 
 -- after the first put the ranges after the first are still to come
 begins : (c : tie.After-known-told Inv-loop μ-loop)
-    → Storing (entry (first-put c) .args .t1) (length (frame (entry (first-put c) .args .t1) (entry (first-put c) .args .delay) (entry (first-put c) .args .count)))
-    (splice (entry (first-put c) .args .buf .now) 0 (frame (entry (first-put c) .args .t1) (entry (first-put c) .args .delay) (entry (first-put c) .args .count)))
+    → Storing (entry (first-put c) .args .t1) (length (body (entry (first-put c) .args .t1) (entry (first-put c) .args .kind) (entry (first-put c) .args .delay) (entry (first-put c) .args .count)))
+    (splice (entry (first-put c) .args .buf .now) 0 (body (entry (first-put c) .args .t1) (entry (first-put c) .args .kind) (entry (first-put c) .args .delay) (entry (first-put c) .args .count)))
     (first-put c .put-numbers .last .0) (c .before .next .given .0 .0) (1024 - entry (first-put c) .args .first) (entry (first-put c) .args .count - 1)
 begins c =
     let k = first-put c in
     let o = entry k in
-    first-stored (started o) (o .pre .2) (o .pre .3) (o .pre .4) (o .args .buf .now) (o .pre .5) (found o) (k .put-numbers .ensures .0)
+    first-stored (started o) (o .pre .7) (o .pre .2) (o .pre .3) (o .pre .4) (o .args .buf .now) (o .pre .5) (found o) (k .put-numbers .ensures .0)
     (c .before .next .given .1) (k .put-numbers .ensures .1) (k .put-numbers .kept .0)
 
 sizes : (c : tie.After-range-below Inv-loop μ-loop)
@@ -70,14 +70,14 @@ sizes c =
     let l = c .before .before .before .before in
     step-sizes (started (origin l)) (l .loop .inv .1) (c .before .before .before .loop-test .taken) (another c .0) (another c .1)
 
-sub-t16 : tie.Need-sub-t16 Inv-loop μ-loop
-sub-t16 c = omega (arith, c .before .pre .1)
-
 sub-t17 : tie.Need-sub-t17 Inv-loop μ-loop
-sub-t17 c = omega (arith, c .before .pre .3)
+sub-t17 c = omega (arith, c .before .pre .1)
 
 sub-t18 : tie.Need-sub-t18 Inv-loop μ-loop
-sub-t18 c = omega (arith, first-size (started (c .before)), found (c .before))
+sub-t18 c = omega (arith, c .before .pre .3)
+
+sub-t19 : tie.Need-sub-t19 Inv-loop μ-loop
+sub-t19 c = omega (arith, first-size (started (c .before)), found (c .before))
 
 slice-aggregate-put-numbers : tie.Need-slice-aggregate-put-numbers Inv-loop μ-loop
 slice-aggregate-put-numbers c = search needs
@@ -95,7 +95,7 @@ returns : tie.Need-returns Inv-loop μ-loop
 returns c =
     let k = c .before .before .before in
     let o = entry k in
-    let e = first-done (started o) (o .pre .2) (o .pre .3) (o .pre .4) (o .args .buf .now) (o .pre .5) (found o) (k .put-numbers .ensures .0) in
+    let e = first-done (started o) (o .pre .7) (o .pre .2) (o .pre .3) (o .pre .4) (o .args .buf .now) (o .pre .5) (found o) (k .put-numbers .ensures .0) in
     absurd (⊎-elim (λ (i : _≡_ {A = ℕ} 0 1). omega arith) (λ (i : _≡_ {A = ℕ} 0 2). omega arith) (rw e at (c .match .keys2)))
 
 sub-low : tie.Need-sub-low Inv-loop μ-loop
@@ -115,8 +115,8 @@ range-below-requires c κs = search needs
 sub-low-2 : tie.Need-sub-low-2 Inv-loop μ-loop
 sub-low-2 c = omega (arith, sizes (c .before))
 
-sub-t27 : tie.Need-sub-t27 Inv-loop μ-loop
-sub-t27 c = omega (arith, sizes (c .before .before))
+sub-t28 : tie.Need-sub-t28 Inv-loop μ-loop
+sub-t28 c = omega (arith, sizes (c .before .before))
 
 slice-aggregate-put-numbers-2 : tie.Need-slice-aggregate-put-numbers-2 Inv-loop μ-loop
 slice-aggregate-put-numbers-2 c = search needs
@@ -176,9 +176,9 @@ store-spec =
     (tie.spec
     Inv-loop
     μ-loop
-    sub-t16
     sub-t17
     sub-t18
+    sub-t19
     slice-aggregate-put-numbers
     put-numbers-requires
     enum-known-next
@@ -189,7 +189,7 @@ store-spec =
     loop-holds
     range-below-requires
     sub-low-2
-    sub-t27
+    sub-t28
     slice-aggregate-put-numbers-2
     put-numbers-requires-2
     enum-known-after
