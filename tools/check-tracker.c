@@ -1,28 +1,12 @@
 /* Holds include/lumbixet_tracker.h to the archive: sizes and places at compile time, and at run time every word of
  * the record, every refusal of each call, and one entry by its bytes. `make host` builds and runs it. */
-#include <inttypes.h>
-#include <stdio.h>
-#include <string.h>
-
 #include "lumbixet_tracker.h"
+#include "same.h"
 
-_Static_assert(sizeof(lumbixet_tracker) == 2072, "lumbixet_tracker");
-_Static_assert(offsetof(lumbixet_tracker, interval) == 8, "lumbixet_tracker.interval");
-_Static_assert(offsetof(lumbixet_tracker, named) == 16, "lumbixet_tracker.named");
-_Static_assert(offsetof(lumbixet_tracker, objects) == 24, "lumbixet_tracker.objects");
-
-static int seen, faults;
-
-#define SAME(got, wanted) same(#got, (uint64_t)(got), (uint64_t)(wanted), __LINE__)
-
-static void same(const char *what, uint64_t got, uint64_t wanted, int line)
-{
-    seen++;
-    if (got == wanted)
-        return;
-    faults++;
-    printf("tracker: line %d: %s is %" PRIu64 ", not %" PRIu64 "\n", line, what, got, wanted);
-}
+SIZE(lumbixet_tracker, 2072);
+AT(lumbixet_tracker, interval, 8);
+AT(lumbixet_tracker, named, 16);
+AT(lumbixet_tracker, objects, 24);
 
 static const uint64_t ended = UINT64_C(1) << 62, received = UINT64_C(2) << 62, late = UINT64_C(3) << 62;
 

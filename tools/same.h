@@ -1,4 +1,4 @@
-/* What the checks of the header share: sizes and places at compile time, and values of the archive beside those wanted. */
+/* What the checks of the headers share: sizes and places at compile time, and values of the archive beside those wanted. */
 #ifndef SAME_H
 #define SAME_H
 
@@ -13,18 +13,18 @@
 
 static int seen, faults;
 
-#define SAME(got, wanted) same(#got, (uint64_t)(got), (uint64_t)(wanted), __LINE__)
+#define SAME(got, wanted) same(#got, (uint64_t)(got), (uint64_t)(wanted), __FILE__, __LINE__)
 
-static void same(const char *what, uint64_t got, uint64_t wanted, int line)
+static inline void same(const char *what, uint64_t got, uint64_t wanted, const char *file, int line)
 {
     seen++;
     if (got == wanted)
         return;
     faults++;
-    printf("header: line %d: %s is %" PRIu64 ", not %" PRIu64 "\n", line, what, got, wanted);
+    printf("%s: line %d: %s is %" PRIu64 ", not %" PRIu64 "\n", file, line, what, got, wanted);
 }
 
-static void same_bytes(const char *what, const void *got, const void *wanted, size_t length)
+static inline void same_bytes(const char *what, const void *got, const void *wanted, size_t length)
 {
     seen++;
     if (memcmp(got, wanted, length) == 0)
