@@ -8,6 +8,7 @@ use crate::random::Random;
 use crate::refusals::ACCEPTED;
 use crate::report::{find_entries, read_entry, read_report, write_report, Header, LARGEST_AVERAGE, RECORD, SMALLEST_AVERAGE};
 use crate::tally::{Call, Lent, Tally};
+use crate::weeks::rising;
 
 pub fn round(random: &mut Random, tally: &mut Tally) -> Result<(), String> {
     let written = compare_write_report(random, tally)?;
@@ -83,17 +84,7 @@ pub fn break_header(random: &mut Random, header: &mut Header) {
 
 /// Records that rise, up to a number of them.
 pub fn records(random: &mut Random, count: u64) -> Vec<u8> {
-    let mut object = random.below(LARGEST / 2);
-    let mut bytes = Vec::new();
-    for _ in 0..count {
-        let status = random.below(4) as u8;
-        let age = if status == 2 { 0 } else { random.any() as u32 };
-        bytes.extend_from_slice(&object.to_be_bytes());
-        bytes.extend_from_slice(&[status, 0, 0, 0]);
-        bytes.extend_from_slice(&age.to_be_bytes());
-        object += 1 + (random.any() >> random.between(10, 63));
-    }
-    bytes
+    rising(random, count, |random| random.any() >> random.between(10, 63))
 }
 
 fn break_records(random: &mut Random, bytes: &mut Vec<u8>) {

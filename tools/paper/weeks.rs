@@ -30,8 +30,8 @@ fn with_length(bytes: &mut Vec<u8>, report: &[u8]) {
     bytes.extend_from_slice(report);
 }
 
-/// Records that rise.
-fn records(random: &mut Random, count: u64) -> Vec<u8> {
+/// Records that rise, each by one more than `step` gives.
+pub fn rising(random: &mut Random, count: u64, step: fn(&mut Random) -> u64) -> Vec<u8> {
     let mut object = random.below(LARGEST / 2);
     let mut bytes = Vec::new();
     for _ in 0..count {
@@ -40,9 +40,13 @@ fn records(random: &mut Random, count: u64) -> Vec<u8> {
         bytes.extend_from_slice(&object.to_be_bytes());
         bytes.extend_from_slice(&[status, 0, 0, 0]);
         bytes.extend_from_slice(&age.to_be_bytes());
-        object += 1 + random.below(5);
+        object += 1 + step(random);
     }
     bytes
+}
+
+fn records(random: &mut Random, count: u64) -> Vec<u8> {
+    rising(random, count, |random| random.below(5))
 }
 
 fn header(random: &mut Random, largest: u64) -> Header {
