@@ -2,8 +2,9 @@
 .PHONY: help test run picture week archive program command build host rust install uninstall paper compare bench
 
 CFLAGS = -std=c11 -Wall -Wextra -Wpedantic -Werror -O2 -Iinclude
-# The archive as hosts link it; the toolchain names it after its crate.
+# The archive as hosts link it, and the crates whose archives are joined in it.
 ARCHIVE = target/lib/liblumbixet.a
+EXPORTS = host host_codec host_report host_tracker
 SOURCES = crates.txt $(shell find crates -name '*.rt' -o -name '*.antt')
 # The loop over packets, an archive of its own that `make bench` alone links.
 STREAM = target/staticlib/libstream.a
@@ -66,11 +67,14 @@ week:
 
 archive: $(ARCHIVE)
 
-# Building the archive proves crate host again, so it is built only where a source is newer.
-$(ARCHIVE): $(SOURCES)
-	@rt staticlib host
+# Building the archive proves its crates again, so it is built only where a source is newer. Each name in it is one of the library's, and stands there once.
+$(ARCHIVE): $(SOURCES) Makefile
+	@set -e; for crate in $(EXPORTS); do rt staticlib $$crate; done
 	@mkdir -p target/lib
-	@cp target/staticlib/libhost.a $@
+	@rm -f $@ target/lib/joined.a
+	@{ echo create target/lib/joined.a; for crate in $(EXPORTS); do echo addlib target/staticlib/lib$$crate.a; done; echo save; echo end; } | ar -M
+	@nm -g --defined-only target/lib/joined.a | awk 'NF == 3 && ($$3 !~ /^lumbixet_/ || names[$$3]++) { print "archive: " $$3; bad = 1 } END { exit bad || NR == 0 }'
+	@mv target/lib/joined.a $@
 
 program:
 	@rt check replay week
