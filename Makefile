@@ -1,13 +1,11 @@
 # The two commands of README.md are `make test` and `make run`; the others show the library from outside.
-.PHONY: help test run picture week archive program command build host rust install uninstall paper compare bench
+.PHONY: help test run picture week archive program command build host relay rust install uninstall paper compare bench
 
 CFLAGS = -std=c11 -Wall -Wextra -Wpedantic -Werror -O2 -Iinclude
 # The archive as hosts link it, and the crates whose archives are joined in it.
 ARCHIVE = target/lib/liblumbixet.a
-EXPORTS = host host_codec host_report host_tracker
+EXPORTS = host host_codec host_report host_tracker lent
 SOURCES = crates.txt $(shell find crates -name '*.rt' -o -name '*.antt')
-# The loop over packets, an archive of its own that `make bench` alone links.
-STREAM = target/staticlib/libstream.a
 PAPER = target/paper/paper
 # The command of the technical desk.
 COMMAND = target/command/lumbixet
@@ -28,6 +26,7 @@ help:
 	@echo 'make picture  draw the bundled hearing and its answers as examples/hearing.svg, the bundled week as examples/week.svg, and the reports on a hearing'\''s objects as examples/objects.svg'
 	@echo "make week     prove the week's program and print the page of the bundled week"
 	@echo 'make host     prove and build the archive for hosts in C, hold the headers to it, and run the examples in C'
+	@echo 'make relay    two thousand rooms in one process, each with its own record that the calls update: counts, acknowledgments by cause, times'
 	@echo 'make rust     build the crate for hosts in Rust (bindings/rust) and run its tests'
 	@echo 'make command  build the command of the technical desk, target/command/lumbixet'
 	@echo 'make build    prove and build what is installed: the archive, the two programs and the command'
@@ -104,10 +103,12 @@ host: archive
 	@target/host/check-report
 	@$(CC) $(CFLAGS) tools/check-room.c $(ARCHIVE) -o target/host/check-room
 	@target/host/check-room
+	@$(CC) $(CFLAGS) tools/check-lent.c $(ARCHIVE) -o target/host/check-lent
+	@target/host/check-lent
 	@$(CC) $(CFLAGS) tools/check-tracker.c $(ARCHIVE) -o target/host/check-tracker
 	@target/host/check-tracker
 	@if command -v $(CXX) >/dev/null; then \
-	    printf '#include "lumbixet.h"\n#include "lumbixet_tracker.h"\n' | $(CXX) -std=c++11 -Wall -Wextra -Wpedantic -Werror -Iinclude -fsyntax-only -x c++ -; fi
+	    printf '#include "lumbixet_lent.h"\n#include "lumbixet.h"\n#include "lumbixet_tracker.h"\n' | $(CXX) -std=c++11 -Wall -Wextra -Wpedantic -Werror -Iinclude -fsyntax-only -x c++ -; fi
 	@set -e; for page in DRIVING TRACKING; do \
 	    sed -n '/^```c$$/,/^```$$/p' docs/$$page.md | sed '/^```/d' | \
 	        $(CC) $(CFLAGS) -Wno-unused-function -include tools/driving.h -fsyntax-only -x c -; \
@@ -120,15 +121,25 @@ host: archive
 	@target/host/objects | diff examples/objects.expected -
 	@sed -n '/^```strip$$/,/^```$$/p' README.md | sed '/^```/d' | diff examples/objects.expected -
 	@echo 'objects: it printed what examples/objects.expected says, and README.md says the same'
+	@$(CC) $(CFLAGS) examples/relay.c $(ARCHIVE) -o target/host/relay
+	@target/host/relay >target/host/relay.out
+	@sed '/^Nanoseconds/,$$d' target/host/relay.out | diff examples/relay.expected -
+	@echo 'relay: before its times it printed what examples/relay.expected says'
 	@echo
 	@cat target/host/room.out
+
+# It shows how far it is where standard error is a terminal.
+relay: archive
+	@mkdir -p target/host
+	@$(CC) $(CFLAGS) examples/relay.c $(ARCHIVE) -o target/host/relay
+	@target/host/relay
 
 # The crate for hosts in Rust and its tests, by rustc alone, which needs no network and no registry.
 rust: archive
 	@mkdir -p target/rust
 	@$(RUSTC) -O --crate-type rlib --crate-name lumbixet -o target/rust/liblumbixet.rlib bindings/rust/src/lib.rs
 	@$(RUSTC) --crate-type rlib --crate-name lumbixet --cfg 'feature="std"' -o target/rust/with-std.rlib bindings/rust/src/lib.rs
-	@set -e; for test in room edges objects; do \
+	@set -e; for test in room edges objects rooms; do \
 	    $(RUSTC) --test --extern lumbixet=target/rust/liblumbixet.rlib -o target/rust/$$test bindings/rust/tests/$$test.rs; \
 	    target/rust/$$test -q; \
 	done
@@ -160,12 +171,14 @@ compare: paper
 	@echo
 	@echo 'The archive and the second implementation'
 	@$(PAPER) compare-archive $(ROUNDS)
+	@echo
+	@echo 'The relay of two thousand rooms, by the second implementation'
+	@$(PAPER) relay | cmp - examples/relay.expected
+	@echo 'relay: examples/relay.expected is what it prints'
 
 bench: paper
-	@rt staticlib stream
-	@echo
 	@mkdir -p target/bench
-	@$(CC) $(CFLAGS) bench/*.c $(ARCHIVE) $(STREAM) -o target/bench/bench
+	@$(CC) $(CFLAGS) bench/*.c $(ARCHIVE) -o target/bench/bench
 	@target/bench/bench
 	@$(PAPER) trace-large > target/bench/large.trace
 	@echo

@@ -32,13 +32,26 @@ static const struct row rows[] = {
     {"the same where the ACK before was confirmed", write_acks, CONFIRMED},
     {"packet in order, R = 1", take_packets, 2 * IN_ORDER},
     {"packet in order, R = 3", take_packets, 2 * IN_ORDER + 1},
-    {"packet in order, in a loop of the archive, R = 1", stream_packets, 2 * IN_ORDER},
-    {"packet in order, in a loop of the archive, R = 3", stream_packets, 2 * IN_ORDER + 1},
     {"packet with 2 % loss, R = 1", take_packets, 2 * LOSS},
     {"packet with 2 % loss, R = 3", take_packets, 2 * LOSS + 1},
     {"packet, pairs swapped, R = 1", take_packets, 2 * SWAPPED},
     {"packet, pairs swapped, R = 3", take_packets, 2 * SWAPPED + 1},
     {"timer, not yet due", look_at_timer, 0},
+    {"packet in order, 2,000 rooms, R = 1", take_packets_in_rooms_by_value, 0},
+    {"packet in order, 2,000 rooms, R = 3", take_packets_in_rooms_by_value, 1},
+    {"lent: packet in order, R = 1", take_packets_lent, 2 * IN_ORDER},
+    {"lent: packet in order, R = 3", take_packets_lent, 2 * IN_ORDER + 1},
+    {"lent: packet in order, 2,000 rooms, R = 1", take_packets_in_rooms, 0},
+    {"lent: packet in order, 2,000 rooms, R = 3", take_packets_in_rooms, 1},
+    {"lent: packet with 2 % loss, R = 1", take_packets_lent, 2 * LOSS},
+    {"lent: packet with 2 % loss, R = 3", take_packets_lent, 2 * LOSS + 1},
+    {"lent: packet, pairs swapped, R = 1", take_packets_lent, 2 * SWAPPED},
+    {"lent: packet, pairs swapped, R = 3", take_packets_lent, 2 * SWAPPED + 1},
+    {"lent: timer, not yet due", look_at_timer_lent, 0},
+    {"lent: timer, not yet due, 2,000 rooms", look_at_timers_in_rooms, 0},
+    {"lent: ACK written, 1 range", write_acks_lent, ONE_RANGE},
+    {"lent: ACK written, 8 ranges", write_acks_lent, EIGHT_RANGES},
+    {"lent: ACK written, 64 ranges", write_acks_lent, SIXTY_FOUR_RANGES},
     {"report of 50 entries read", read_reports, 0},
     {"report of 50 entries written", write_reports, 0},
     {"object arrived, record lent", arrive_objects, 0},
@@ -136,7 +149,7 @@ int main(void)
     printf("Nanoseconds for one call; both sides take turns; two looks at the clock (%" PRIu64 " ns) are taken off.\n",
            clock_cost);
     printf("Packet rows time blocks of %d packets; the ACK written after each block is not timed.\n", BLOCK);
-    printf("In a loop of the archive, or of plain C, a block is one call, and the time is given for one packet.\n\n");
+    printf("In the rows that begin with lent the record is lent, on both sides; in the others it goes by value.\n\n");
     time_all();
     print_table();
     print_bytes();

@@ -1,5 +1,6 @@
-/* The receiver: each call on one record, and the answer of the archive handed back. The timed traffic, sequences of any
- * calls, some on spoiled records, lists of packets, and windows with hundreds of ranges. */
+/* The receiver: each call on one record, and the answer of the archive handed back; packet, timer and write in both forms,
+ * by value and on a lent record. The timed traffic, sequences of any calls, some on spoiled records, and windows with
+ * hundreds of ranges. */
 #include <string.h>
 
 #include "checks.h"
@@ -7,7 +8,15 @@
 #include "inputs.h"
 #include "sides.h"
 
-enum { SEQUENCES = 2000, CALLS = 200, LISTS = 50 };
+enum { SEQUENCES = 2000, CALLS = 200 };
+
+/* What both sides answered and left of two lent records: the same as the call by value. */
+static void check_lent(const lumbixet_answer *wanted, uint64_t a, const lumbixet_receiver *x, uint64_t b,
+                       const lumbixet_receiver *y, const char *call)
+{
+    check(a == wanted->result && same_record(x, &wanted->next), call);
+    check(b == wanted->result && same_record(y, &wanted->next), call);
+}
 
 static lumbixet_answer compare_packet(const lumbixet_receiver *r, uint64_t number, uint64_t time, bool eliciting,
                                       uint64_t ecn)
@@ -15,15 +24,10 @@ static lumbixet_answer compare_packet(const lumbixet_receiver *r, uint64_t numbe
     lumbixet_answer a = archive.packet(*r, number, time, eliciting, ecn);
     lumbixet_answer b = plain.packet(*r, number, time, eliciting, ecn);
     check_answer(&a, &b, "packet");
-    return a;
-}
-
-static lumbixet_answer compare_stream(const lumbixet_receiver *r, const uint64_t *list, size_t length, uint64_t time,
-                                      bool eliciting, bool marked)
-{
-    lumbixet_answer a = archive.stream(*r, list, length, time, eliciting, marked);
-    lumbixet_answer b = plain.stream(*r, list, length, time, eliciting, marked);
-    check_answer(&a, &b, "stream");
+    lumbixet_receiver x = *r, y = *r;
+    uint64_t here = archive.packet_lent(&x, number, time, eliciting, ecn);
+    uint64_t there = plain.packet_lent(&y, number, time, eliciting, ecn);
+    check_lent(&a, here, &x, there, &y, "packet_lent");
     return a;
 }
 
@@ -32,6 +36,10 @@ static lumbixet_answer compare_timer(const lumbixet_receiver *r, uint64_t time)
     lumbixet_answer a = archive.timer(*r, time);
     lumbixet_answer b = plain.timer(*r, time);
     check_answer(&a, &b, "timer");
+    lumbixet_receiver x = *r, y = *r;
+    uint64_t here = archive.timer_lent(&x, time);
+    uint64_t there = plain.timer_lent(&y, time);
+    check_lent(&a, here, &x, there, &y, "timer_lent");
     return a;
 }
 
@@ -66,7 +74,16 @@ static lumbixet_answer compare_write_as(const lumbixet_receiver *r, uint64_t tim
     lumbixet_wrote a = archive.write(*r, time, counts, left, room);
     lumbixet_wrote b = plain.write(*r, time, counts, right, room);
     check(a.result == b.result && a.length == b.length && same_record(&a.next, &b.next) && same_buffers(), "write");
-    return (lumbixet_answer){a.result, a.next};
+    lumbixet_answer answer = {a.result, a.next};
+    lumbixet_receiver x = *r, y = *r;
+    memset(right, 0xa5, sizeof right);
+    lumbixet_wrote_lent there = plain.write_lent(&y, time, counts, right, room);
+    check(there.length == a.length && same_buffers(), "write_lent");
+    memset(right, 0xa5, sizeof right);
+    lumbixet_wrote_lent here = archive.write_lent(&x, time, counts, right, room);
+    check(here.length == a.length && same_buffers(), "write_lent");
+    check_lent(&answer, here.result, &x, there.result, &y, "write_lent");
+    return answer;
 }
 
 /* As type 03, then as type 02, whose answer it gives. */
@@ -83,17 +100,6 @@ static void compare_traffic(const struct traffic *t)
         record = compare_packet(&record, t->numbers[k], arrival(k), true, LUMBIXET_ECN_ECT0).next;
         if (k % BLOCK == BLOCK - 1)
             record = compare_write(&record, arrival(k), FRAME_ROOM).next;
-    }
-}
-
-/* The timed blocks, each in one call. */
-static void compare_blocks(const struct traffic *t)
-{
-    lumbixet_receiver record = t->start;
-    for (size_t block = WARM; block < WARM + PACKETS; block += BLOCK) {
-        uint64_t time = arrival(block + BLOCK - 1);
-        record = compare_stream(&record, t->numbers + block, BLOCK, time, true, false).next;
-        record = compare_write(&record, time, FRAME_ROOM).next;
     }
 }
 
@@ -209,44 +215,6 @@ static void compare_sequence(void)
     }
 }
 
-/* A list that goes on from the record with a gap or a step back now and then, and that has, in half of the lists, a
- * number from anywhere at some place: many of these are refused. */
-static size_t make_list(uint64_t *list, const lumbixet_receiver *r)
-{
-    size_t length = below(BLOCK + 1);
-    uint64_t number = r->end;
-    for (size_t i = 0; i < length; i++) {
-        uint64_t kind = below(64);
-        list[i] = kind == 0 ? number - 1 - below(1100) : number;
-        if (kind)
-            number += kind < 4 ? 2 : 1;
-    }
-    if (length && below(2)) {
-        size_t place = below(length);
-        list[place] = below(4) ? number - 1 - below(1100) : any_number();
-    }
-    return length;
-}
-
-static void compare_lists(void)
-{
-    uint64_t threshold = below(40);
-    lumbixet_receiver record = archive.open(threshold, below(7), 25, 1000).next;
-    uint64_t list[BLOCK];
-    for (size_t i = 0; i < LISTS; i++) {
-        lumbixet_receiver made_up = below(16) ? record : spoiled(record);
-        size_t length = make_list(list, &made_up);
-        uint64_t time = below(16) ? record.arrived + below(3000) : any_number();
-        bool eliciting = below(8) != 0;
-        bool marked = below(8) == 0;
-        lumbixet_answer answer = compare_stream(&made_up, list, length, time, eliciting, marked);
-        if (answer.result != LUMBIXET_INCONSISTENT)
-            record = answer.next;
-        if (i % 8 == 7)
-            record = compare_write(&record, record.arrived, FRAME_ROOM).next;
-    }
-}
-
 /* Windows with every number missing or there at random have hundreds of ranges: each room up to 1,000 cuts some off. */
 static void compare_dense_windows(void)
 {
@@ -280,10 +248,8 @@ static void compare_made_up_highest(void)
 void compare_receiver(void)
 {
     for (int pattern = 0; pattern < PATTERNS; pattern++)
-        for (int r = 0; r < 2; r++) {
+        for (int r = 0; r < 2; r++)
             compare_traffic(&traffic[pattern][r]);
-            compare_blocks(&traffic[pattern][r]);
-        }
     for (int kind = 0; kind < ACK_KINDS; kind++)
         for (size_t v = 0; v < VARIANTS; v++)
             for (size_t room = 0; room <= 300; room++)
@@ -291,8 +257,6 @@ void compare_receiver(void)
     compare_dense_windows();
     compare_sitting();
     compare_made_up_highest();
-    for (size_t i = 0; i < SEQUENCES; i++) {
+    for (size_t i = 0; i < SEQUENCES; i++)
         compare_sequence();
-        compare_lists();
-    }
 }

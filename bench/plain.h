@@ -23,6 +23,10 @@ lumbixet_answer plain_threshold(lumbixet_receiver receiver, uint64_t sequence, u
 lumbixet_answer plain_immediate(lumbixet_receiver receiver);
 lumbixet_answer plain_confirm(lumbixet_receiver receiver, uint64_t largest);
 lumbixet_wrote plain_write(lumbixet_receiver receiver, uint64_t time_us, bool counts, uint8_t *buffer, size_t length);
+uint64_t plain_packet_lent(lumbixet_receiver *receiver, uint64_t number, uint64_t time_us, bool eliciting, uint64_t ecn);
+uint64_t plain_timer_lent(lumbixet_receiver *receiver, uint64_t time_us);
+lumbixet_wrote_lent plain_write_lent(lumbixet_receiver *receiver, uint64_t time_us, bool counts, uint8_t *buffer,
+                                     size_t length);
 
 lumbixet_report plain_read_report(const uint8_t *bytes, size_t length);
 lumbixet_entries plain_find_entries(const uint8_t *bytes, size_t length);

@@ -3,10 +3,7 @@
 #include "clock.h"
 #include "inputs.h"
 
-enum { CALLS = 2048 };
-
-/* Every answer goes in here, so that no call can be left out. */
-static volatile uint64_t sink;
+volatile uint64_t sink;
 
 /* Each round has numbers of its own, else the processor would learn the order of their lengths. */
 double read_numbers(const struct side *side, int kind, int round)
@@ -91,25 +88,6 @@ double take_packets(const struct side *side, int kind, int round)
         passed += since(from);
         sink += a.next.cause;
         a.next = side->write(a.next, arrival(block + BLOCK - 1), false, frame, sizeof frame).next;
-    }
-    return (double)passed / PACKETS;
-}
-
-/* The same blocks, each in one call, and so at one time: nanoseconds for a packet. */
-double stream_packets(const struct side *side, int kind, int round)
-{
-    (void)round;
-    const struct traffic *t = &traffic[kind / 2][kind % 2];
-    _Alignas(64) lumbixet_answer a = {0, t->start};
-    uint8_t frame[FRAME_ROOM];
-    uint64_t passed = 0;
-    for (size_t block = WARM; block < WARM + PACKETS; block += BLOCK) {
-        uint64_t time = arrival(block + BLOCK - 1);
-        uint64_t from = now();
-        a = side->stream(a.next, t->numbers + block, BLOCK, time, true, false);
-        passed += since(from);
-        sink += a.next.cause;
-        a.next = side->write(a.next, time, false, frame, sizeof frame).next;
     }
     return (double)passed / PACKETS;
 }

@@ -4,16 +4,29 @@
 
 #include "sides.h"
 
+enum { CALLS = 2048 };
+
+/* Every answer goes in here, so that no call can be left out. */
+extern volatile uint64_t sink;
+
 double read_numbers(const struct side *side, int kind, int round);
 double put_numbers(const struct side *side, int kind, int round);
 double read_acks(const struct side *side, int kind, int round);
 double write_acks(const struct side *side, int kind, int round);
 double take_packets(const struct side *side, int kind, int round);
-double stream_packets(const struct side *side, int kind, int round);
 double look_at_timer(const struct side *side, int kind, int round);
 double read_reports(const struct side *side, int kind, int round);
 double write_reports(const struct side *side, int kind, int round);
 double arrive_objects(const struct side *side, int kind, int round);
 double report_objects(const struct side *side, int kind, int round);
+
+/* On a lent record; and on those of ROOMS rooms in turn, for kind R = 1 (0) or R = 3 (1). */
+enum { ROOMS = 2000 };
+double take_packets_lent(const struct side *side, int kind, int round);
+double take_packets_in_rooms(const struct side *side, int kind, int round);
+double take_packets_in_rooms_by_value(const struct side *side, int kind, int round);
+double look_at_timer_lent(const struct side *side, int kind, int round);
+double look_at_timers_in_rooms(const struct side *side, int kind, int round);
+double write_acks_lent(const struct side *side, int kind, int round);
 
 #endif

@@ -14,12 +14,14 @@ struct side {
     lumbixet_put (*put_immediate)(uint8_t *, size_t);
     lumbixet_answer (*open)(uint64_t, uint64_t, uint64_t, uint64_t);
     lumbixet_answer (*packet)(lumbixet_receiver, uint64_t, uint64_t, bool, uint64_t);
-    lumbixet_answer (*stream)(lumbixet_receiver, const uint64_t *, size_t, uint64_t, bool, bool);
     lumbixet_answer (*timer)(lumbixet_receiver, uint64_t);
     lumbixet_answer (*threshold)(lumbixet_receiver, uint64_t, uint64_t, uint64_t, uint64_t);
     lumbixet_answer (*immediate)(lumbixet_receiver);
     lumbixet_answer (*confirm)(lumbixet_receiver, uint64_t);
     lumbixet_wrote (*write)(lumbixet_receiver, uint64_t, bool, uint8_t *, size_t);
+    uint64_t (*packet_lent)(lumbixet_receiver *, uint64_t, uint64_t, bool, uint64_t);
+    uint64_t (*timer_lent)(lumbixet_receiver *, uint64_t);
+    lumbixet_wrote_lent (*write_lent)(lumbixet_receiver *, uint64_t, bool, uint8_t *, size_t);
     lumbixet_report (*read_report)(const uint8_t *, size_t);
     lumbixet_entries (*find_entries)(const uint8_t *, size_t);
     lumbixet_entry (*read_entry)(const uint8_t *, size_t, size_t);

@@ -1,4 +1,5 @@
-/* The receiver of one hearing room, told in sentences: `make host` builds and runs it.
+/* The receiver of one hearing room, told in sentences: `make host` builds and runs it. The record stands in one place; packets,
+ * timer and writes update it there, and the rarer calls hand it over by value.
  * What it must print stands in room.expected, which was written by hand from documents 01 and 02. */
 #include <inttypes.h>
 #include <stdio.h>
@@ -30,54 +31,60 @@ static void refused(uint64_t result)
     printf(" Refused with %" PRIu64 ": %s.\n", result, lumbixet_refusal_text(result));
 }
 
-/* Ends the sentence on a call with what came of it, and hands the next record on. */
-static lumbixet_receiver told(lumbixet_answer answer)
+/* Ends the sentence on a call with what came of it. */
+static void told(uint64_t result, const lumbixet_receiver *receiver)
 {
-    if (answer.result == LUMBIXET_STALE)
+    if (result == LUMBIXET_STALE)
         puts(" It is stale: nothing changed.");
-    else if (answer.result != LUMBIXET_ACCEPTED)
-        refused(answer.result);
-    else if (answer.next.cause == LUMBIXET_NOT_DUE)
+    else if (result != LUMBIXET_ACCEPTED)
+        refused(result);
+    else if (receiver->cause == LUMBIXET_NOT_DUE)
         puts(" Nothing is due.");
     else
-        printf(" An acknowledgment is due: %s.\n", lumbixet_cause_text(answer.next.cause));
-    return answer.next;
+        printf(" An acknowledgment is due: %s.\n", lumbixet_cause_text(receiver->cause));
 }
 
-static void rules(lumbixet_receiver receiver)
+/* The same of a call by value, whose next record is taken. */
+static void taken(lumbixet_answer answer, lumbixet_receiver *receiver)
 {
-    printf("An acknowledgment is due for more than %" PRIu64 " packets, ", receiver.threshold);
-    if (receiver.reordering == 0)
+    *receiver = answer.next;
+    told(answer.result, receiver);
+}
+
+static void rules(const lumbixet_receiver *receiver)
+{
+    printf("An acknowledgment is due for more than %" PRIu64 " packets, ", receiver->threshold);
+    if (receiver->reordering == 0)
         printf("never for a gap");
     else
-        printf("for a gap that reaches %" PRIu64, receiver.reordering);
-    printf(", or after %" PRIu64 " microseconds.\n", receiver.delay);
+        printf("for a gap that reaches %" PRIu64, receiver->reordering);
+    printf(", or after %" PRIu64 " microseconds.\n", receiver->delay);
 }
 
-static lumbixet_receiver packet(lumbixet_receiver receiver, uint64_t number, uint64_t time, uint64_t ecn)
+static void packet(lumbixet_receiver *receiver, uint64_t number, uint64_t time, uint64_t ecn)
 {
     static const char *const marks[] = {"", " marked ECT(1)", " marked ECT(0)", " with a congestion mark"};
     printf("At %" PRIu64 " packet %" PRIu64 " arrives%s.", time, number, marks[ecn]);
-    return told(lumbixet_packet(receiver, number, time, true, ecn));
+    told(lumbixet_packet_lent(receiver, number, time, true, ecn), receiver);
 }
 
-static lumbixet_receiver timer(lumbixet_receiver receiver, uint64_t time)
+static void timer(lumbixet_receiver *receiver, uint64_t time)
 {
     printf("At %" PRIu64 " the timer is looked at.", time);
-    return told(lumbixet_timer(receiver, time));
+    told(lumbixet_timer_lent(receiver, time), receiver);
 }
 
 /* Writes an acknowledgment, with the counts of marks or without, and reads it back as the sender will. */
-static lumbixet_receiver acknowledge(lumbixet_receiver receiver, uint64_t time, bool counts, size_t room)
+static void acknowledge(lumbixet_receiver *receiver, uint64_t time, bool counts, size_t room)
 {
     uint8_t buffer[ROOM];
     uint64_t ranges[LUMBIXET_RANGES_ROOM(ROOM)];
-    lumbixet_wrote wrote = lumbixet_write(receiver, time, counts, buffer, room);
+    lumbixet_wrote_lent wrote = lumbixet_write_lent(receiver, time, counts, buffer, room);
     printf("At %" PRIu64 " an acknowledgment%s is written into %zu bytes", time, counts ? " with counts" : "", room);
     if (wrote.result != LUMBIXET_ACCEPTED) {
         putchar('.');
         refused(wrote.result);
-        return wrote.next;
+        return;
     }
     putchar(':');
     show(buffer, wrote.length);
@@ -89,11 +96,10 @@ static lumbixet_receiver acknowledge(lumbixet_receiver receiver, uint64_t time, 
     putchar('\n');
     if (ack.counts)
         printf("  Marked so far: %" PRIu64 " with ECT(0), %" PRIu64 " with ECT(1), %" PRIu64 " with CE.\n", ack.ect0, ack.ect1, ack.ce);
-    return wrote.next;
 }
 
 /* An ACK_FREQUENCY frame: written by the sender, read here, heard, and heard once more. */
-static lumbixet_receiver other_rules(lumbixet_receiver receiver)
+static void other_rules(lumbixet_receiver *receiver)
 {
     uint8_t buffer[LUMBIXET_FREQUENCY_ROOM];
     lumbixet_put put = lumbixet_put_frequency(buffer, sizeof buffer, 5, 2, 5000, 0);
@@ -105,15 +111,15 @@ static lumbixet_receiver other_rules(lumbixet_receiver receiver)
     printf("  Read, it has sequence %" PRIu64 ", threshold %" PRIu64 ", delay %" PRIu64 " and reordering threshold %" PRIu64 ".\n",
            f.sequence, f.threshold, f.delay, f.reordering);
     printf("The frame is heard.");
-    receiver = told(lumbixet_threshold(receiver, f.sequence, f.threshold, f.delay, f.reordering));
+    taken(lumbixet_threshold(*receiver, f.sequence, f.threshold, f.delay, f.reordering), receiver);
     rules(receiver);
     printf("The frame is heard.");
-    receiver = told(lumbixet_threshold(receiver, f.sequence, f.threshold, f.delay, f.reordering));
+    taken(lumbixet_threshold(*receiver, f.sequence, f.threshold, f.delay, f.reordering), receiver);
     printf("A frame with sequence 6 asks for a delay of 16384000.");
-    return told(lumbixet_threshold(receiver, 6, 2, 16384000, 0));
+    taken(lumbixet_threshold(*receiver, 6, 2, 16384000, 0), receiver);
 }
 
-static lumbixet_receiver asked(lumbixet_receiver receiver)
+static void asked(lumbixet_receiver *receiver)
 {
     uint8_t buffer[ROOM];
     lumbixet_put put = lumbixet_put_immediate(buffer, sizeof buffer);
@@ -123,19 +129,19 @@ static lumbixet_receiver asked(lumbixet_receiver receiver)
     printf("The sender's frame is");
     for (uint64_t i = 0; i < frame.used; i++)
         printf(" %02x.", buffer[i]);
-    return told(lumbixet_immediate(receiver));
+    taken(lumbixet_immediate(*receiver), receiver);
 }
 
 /* The sender acknowledges the packet that carried an ACK: it knows of the numbers up to that ACK's largest. */
-static lumbixet_receiver confirmed(lumbixet_receiver receiver, uint64_t largest)
+static void confirmed(lumbixet_receiver *receiver, uint64_t largest)
 {
-    lumbixet_answer answer = lumbixet_confirm(receiver, largest);
+    lumbixet_answer answer = lumbixet_confirm(*receiver, largest);
+    *receiver = answer.next;
     printf("The packet with the acknowledgment of %" PRIu64 " is itself acknowledged.", largest);
     if (answer.result == LUMBIXET_ACCEPTED)
-        printf(" Numbers below %" PRIu64 " are reported no more.\n", answer.next.confirmed);
+        printf(" Numbers below %" PRIu64 " are reported no more.\n", receiver->confirmed);
     else
         refused(answer.result);
-    return answer.next;
 }
 
 /* Reads a report, and says what became of each object that it has an entry for. */
@@ -195,57 +201,57 @@ int main(void)
     lumbixet_answer opened = lumbixet_open(1000, 3, 25, 1000);
     must(opened.result, "opening");
     lumbixet_receiver receiver = opened.next;
-    rules(receiver);
-    receiver = packet(receiver, 0, 1000, LUMBIXET_ECN_NONE);
-    receiver = packet(receiver, 1, 2000, LUMBIXET_ECN_NONE);
-    receiver = packet(receiver, 3, 4000, LUMBIXET_ECN_NONE);
-    receiver = packet(receiver, 4, 5000, LUMBIXET_ECN_NONE);
-    receiver = packet(receiver, 5, 6000, LUMBIXET_ECN_NONE);
-    receiver = packet(receiver, 5, 6100, LUMBIXET_ECN_NONE);
-    receiver = acknowledge(receiver, 6400, false, ROOM);
+    rules(&receiver);
+    packet(&receiver, 0, 1000, LUMBIXET_ECN_NONE);
+    packet(&receiver, 1, 2000, LUMBIXET_ECN_NONE);
+    packet(&receiver, 3, 4000, LUMBIXET_ECN_NONE);
+    packet(&receiver, 4, 5000, LUMBIXET_ECN_NONE);
+    packet(&receiver, 5, 6000, LUMBIXET_ECN_NONE);
+    packet(&receiver, 5, 6100, LUMBIXET_ECN_NONE);
+    acknowledge(&receiver, 6400, false, ROOM);
 
     puts("\nThe sender asks for other rules");
-    receiver = other_rules(receiver);
+    other_rules(&receiver);
 
     puts("\nThe timer runs");
-    receiver = packet(receiver, 6, 20000, LUMBIXET_ECN_NONE);
-    receiver = timer(receiver, 24999);
-    receiver = timer(receiver, 25000);
-    receiver = acknowledge(receiver, 25000, false, ROOM);
+    packet(&receiver, 6, 20000, LUMBIXET_ECN_NONE);
+    timer(&receiver, 24999);
+    timer(&receiver, 25000);
+    acknowledge(&receiver, 25000, false, ROOM);
 
     puts("\nThe lost packet comes after all");
-    receiver = packet(receiver, 2, 26000, LUMBIXET_ECN_NONE);
-    receiver = packet(receiver, 7, 27000, LUMBIXET_ECN_NONE);
-    receiver = packet(receiver, 8, 28000, LUMBIXET_ECN_NONE);
-    receiver = acknowledge(receiver, 28000, false, ROOM);
+    packet(&receiver, 2, 26000, LUMBIXET_ECN_NONE);
+    packet(&receiver, 7, 27000, LUMBIXET_ECN_NONE);
+    packet(&receiver, 8, 28000, LUMBIXET_ECN_NONE);
+    acknowledge(&receiver, 28000, false, ROOM);
 
     puts("\nThe network is congested, and the sender asks");
-    receiver = packet(receiver, 9, 29000, LUMBIXET_ECN_CE);
-    receiver = acknowledge(receiver, 29000, false, 4);
-    receiver = acknowledge(receiver, 29000, false, 5);
-    receiver = asked(receiver);
-    receiver = acknowledge(receiver, 29400, false, ROOM);
+    packet(&receiver, 9, 29000, LUMBIXET_ECN_CE);
+    acknowledge(&receiver, 29000, false, 4);
+    acknowledge(&receiver, 29000, false, 5);
+    asked(&receiver);
+    acknowledge(&receiver, 29400, false, ROOM);
 
     puts("\nThe sender confirms an acknowledgment");
-    receiver = packet(receiver, 12, 30000, LUMBIXET_ECN_NONE);
-    receiver = packet(receiver, 13, 31000, LUMBIXET_ECN_NONE);
-    receiver = acknowledge(receiver, 31000, false, ROOM);
-    receiver = confirmed(receiver, 9);
-    receiver = acknowledge(receiver, 31500, false, ROOM);
-    receiver = packet(receiver, 9, 32000, LUMBIXET_ECN_NONE);
-    receiver = confirmed(receiver, 13);
-    receiver = packet(receiver, 14, 33000, LUMBIXET_ECN_NONE);
-    receiver = acknowledge(receiver, 33000, false, ROOM);
-    receiver = confirmed(receiver, 15);
+    packet(&receiver, 12, 30000, LUMBIXET_ECN_NONE);
+    packet(&receiver, 13, 31000, LUMBIXET_ECN_NONE);
+    acknowledge(&receiver, 31000, false, ROOM);
+    confirmed(&receiver, 9);
+    acknowledge(&receiver, 31500, false, ROOM);
+    packet(&receiver, 9, 32000, LUMBIXET_ECN_NONE);
+    confirmed(&receiver, 13);
+    packet(&receiver, 14, 33000, LUMBIXET_ECN_NONE);
+    acknowledge(&receiver, 33000, false, ROOM);
+    confirmed(&receiver, 15);
 
     puts("\nThe sender wants the marks counted");
-    receiver = packet(receiver, 15, 34000, LUMBIXET_ECN_ECT0);
-    receiver = packet(receiver, 16, 34500, LUMBIXET_ECN_CE);
-    receiver = acknowledge(receiver, 34500, true, 7);
-    receiver = acknowledge(receiver, 34500, true, 8);
-    receiver = packet(receiver, 16, 34600, LUMBIXET_ECN_CE);
-    receiver = packet(receiver, 18, 35000, LUMBIXET_ECN_ECT1);
-    acknowledge(receiver, 35000, true, ROOM);
+    packet(&receiver, 15, 34000, LUMBIXET_ECN_ECT0);
+    packet(&receiver, 16, 34500, LUMBIXET_ECN_CE);
+    acknowledge(&receiver, 34500, true, 7);
+    acknowledge(&receiver, 34500, true, 8);
+    packet(&receiver, 16, 34600, LUMBIXET_ECN_CE);
+    packet(&receiver, 18, 35000, LUMBIXET_ECN_ECT1);
+    acknowledge(&receiver, 35000, true, ROOM);
 
     puts("\nThe report");
     report();

@@ -2,8 +2,8 @@
  *
  * Every call takes any bytes and any numbers, ends, and keeps nothing between calls. `result` is 0 for
  * accepted, or the refusal number of document 01 (LUMBIXET_..., below). A refused call hands the record
- * back as it came and writes no element of a lent buffer. What else it answers is then 0; the one call
- * without a result, lumbixet_find_entries, says itself what it answers of a refused report.
+ * back as it came, or leaves a lent one as it was, and writes no element of a lent buffer. What else it answers
+ * is then 0; the one call without a result, lumbixet_find_entries, says itself what it answers of a refused report.
  *
  * A pointer with its length names that many elements, all readable, and writable where the pointer is not
  * const; with length 0 the pointer must still not be NULL. Two lent parts of one call must not overlap.
@@ -19,7 +19,8 @@
  * and fields, and so change the size of a struct: compile header and archive of one version. 0.2 brought lumbixet_tracker.h,
  * `confirmed` and lumbixet_confirm. 0.3 brought the totals of marks: lumbixet_packet takes the ECN field in place
  * of the CE mark, lumbixet_write takes which ACK to write, and a record is 288 bytes; one that was kept by an
- * earlier version is opened anew. Announced are more metrics in lumbixet_header. Numbers keep their meaning.
+ * earlier version is opened anew. 0.4 brought lumbixet_lent.h. Announced are more metrics in lumbixet_header. Numbers keep
+ * their meaning.
  */
 #ifndef LUMBIXET_H
 #define LUMBIXET_H
@@ -34,10 +35,10 @@ extern "C" {
 
 /* The version of this header and of the archive that goes with it: its parts, one number to compare, and its name. */
 #define LUMBIXET_VERSION_MAJOR 0
-#define LUMBIXET_VERSION_MINOR 3
+#define LUMBIXET_VERSION_MINOR 4
 #define LUMBIXET_VERSION_PATCH 0
 #define LUMBIXET_VERSION (10000 * LUMBIXET_VERSION_MAJOR + 100 * LUMBIXET_VERSION_MINOR + LUMBIXET_VERSION_PATCH)
-#define LUMBIXET_VERSION_TEXT "0.3.0"
+#define LUMBIXET_VERSION_TEXT "0.4.0"
 
 /* The largest number, threshold and time: 2^62 - 1. */
 #define LUMBIXET_LARGEST UINT64_C(4611686018427387903)
@@ -239,6 +240,9 @@ static inline uint64_t lumbixet_wake(const lumbixet_receiver *receiver)
 #ifdef __cplusplus
 }
 #endif
+
+/* Packet, timer and write on a record that the host lends. */
+#include "lumbixet_lent.h"
 
 /* The feedback report. */
 #include "lumbixet_report.h"

@@ -2,6 +2,7 @@
 
 use crate::archive::*;
 use crate::compare_counts::{judge_totals, note_mark, note_totals, read_back, write_at_every_room};
+use crate::compare_lent::{compare_packet_lent, compare_timer_lent, compare_write_lent};
 use crate::made_up::{argument, raw, reordering, up_to};
 use crate::numbers::LARGEST;
 use crate::random::Random;
@@ -127,6 +128,7 @@ fn compare_packet(
     let archive = unsafe { lumbixet_packet(*given, number, time, eliciting, ecn) };
     let call = Call { name: "packet", result: papers.result, given: &(number, time, eliciting, ecn, given) };
     tally.compare(call, papers, archive)?;
+    compare_packet_lent(tally, given, (number, time, eliciting, ecn), papers)?;
     tally.note_cause(&archive);
     note_mark(tally, record, &papers, eliciting, ecn);
     let below = papers.result == BELOW_WINDOW;
@@ -146,6 +148,7 @@ fn compare_timer(random: &mut Random, tally: &mut Tally, given: &Receiver, recor
     let papers = wanted(given, timer(record.clone(), time));
     let archive = unsafe { lumbixet_timer(*given, time) };
     tally.compare(Call { name: "timer", result: papers.result, given: &(time, given) }, papers, archive)?;
+    compare_timer_lent(tally, given, time, papers)?;
     tally.note_cause(&archive);
     Ok(archive.next)
 }
@@ -237,7 +240,8 @@ pub fn compare_write_in(
 ) -> Result<Wrote, String> {
     let Choice { time, counts, room } = choice;
     let mut papers_lent = Lent::new(random, room);
-    let mut archive_lent = Lent { memory: papers_lent.memory.clone(), length: room };
+    let mut archive_lent = papers_lent.clone();
+    let also_lent = papers_lent.clone();
     let (result, used, next) = write(record.clone(), time, counts, papers_lent.buffer());
     let answer = wanted(given, (result, next));
     let papers = Wrote { result, length: used as u64, next: answer.next };
@@ -246,6 +250,7 @@ pub fn compare_write_in(
         read_back(random, tally, record, counts, &papers_lent.buffer()[..used])?;
     }
     let call = Call { name: if counts { "write 03" } else { "write 02" }, result, given: &(choice, given) };
+    compare_write_lent(tally, given, choice, (&papers, &papers_lent), also_lent)?;
     tally.compare(call, (papers, papers_lent.memory), (archive, archive_lent.memory))?;
     let left_out = result == ACCEPTED && record.received.range(..record.confirmed).next().is_some();
     tally.note("an ACK without numbers that the record's floor leaves out", left_out);

@@ -8,7 +8,7 @@ use crate::numbers::LARGEST;
 use crate::random::Random;
 use crate::refusals::{ACCEPTED, INCONSISTENT, NO_ROOM, TOO_LARGE};
 use crate::report::RECORD;
-use crate::tally::{Call, Lent, Tally};
+use crate::tally::{leaves, Call, Lent, Tally};
 use crate::tracker::{open, Known, Tracker, OBJECTS};
 
 /// All calls on one made-up record.
@@ -112,28 +112,9 @@ fn compare_open(random: &mut Random, tally: &mut Tally, given: &Raw) -> Result<R
         Ok(_) => (ACCEPTED, Raw { first, interval, named: 0, objects: [0; OBJECTS as usize] }),
         Err(result) => (result, *given),
     };
-    let (result, next) = archive_leaves(given, |lent| unsafe { lumbixet_tracker_open(lent, first, interval) })?;
+    let (result, next) = leaves(given, |lent| unsafe { lumbixet_tracker_open(lent, first, interval) })?;
     tally.compare(Call { name: "tracker_open", result: papers.0, given: &(first, interval) }, papers, (result, next))?;
     Ok(if result == ACCEPTED { next } else { Raw { first: 7, interval: 20_000, named: 0, objects: [0; OBJECTS as usize] } })
-}
-
-/// A lent record with other memory on both sides.
-#[repr(C)]
-struct Lending {
-    before: [u64; 4],
-    record: Raw,
-    behind: [u64; 4],
-}
-
-/// What the archive answers and leaves in the record; it must not touch the memory around.
-fn archive_leaves(given: &Raw, call: impl FnOnce(*mut Raw) -> u64) -> Result<(u64, Raw), String> {
-    let around = [0x5555_aaaa_5555_aaaa; 4];
-    let mut lending = Lending { before: around, record: *given, behind: around };
-    let result = call(&mut lending.record);
-    if lending.before != around || lending.behind != around {
-        return Err("a tracker's call wrote beside its record".to_string());
-    }
-    Ok((result, lending.record))
 }
 
 /// What the archive is to leave: the words of the next record, or on any refusal those that it was given.
@@ -157,7 +138,7 @@ fn compare_arrived(random: &mut Random, tally: &mut Tally, given: &Raw, object: 
     };
     let deadline = end.checked_sub(1);
     let papers = wanted(given, |tracker| tracker.arrived(object, time, deadline));
-    let (result, next) = archive_leaves(given, |lent| unsafe { lumbixet_tracker_arrived(lent, object, time, end) })?;
+    let (result, next) = leaves(given, |lent| unsafe { lumbixet_tracker_arrived(lent, object, time, end) })?;
     let call = Call { name: "tracker_arrived", result: papers.0, given: &(given, object, time, end) };
     tally.compare(call, papers, (result, next))?;
     if result == ACCEPTED {
@@ -179,7 +160,7 @@ fn compare_arrived(random: &mut Random, tally: &mut Tally, given: &Raw, object: 
 
 fn compare_ended_early(tally: &mut Tally, given: &Raw, object: u64, time: u64) -> Result<Raw, String> {
     let papers = wanted(given, |tracker| tracker.ended_early(object, time));
-    let (result, next) = archive_leaves(given, |lent| unsafe { lumbixet_tracker_ended_early(lent, object, time) })?;
+    let (result, next) = leaves(given, |lent| unsafe { lumbixet_tracker_ended_early(lent, object, time) })?;
     let call = Call { name: "tracker_ended_early", result: papers.0, given: &(given, object, time) };
     tally.compare(call, papers, (result, next))?;
     if result == ACCEPTED {

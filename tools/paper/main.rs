@@ -17,6 +17,8 @@ mod compare_counts;
 #[cfg(archive)]
 mod compare_forms;
 #[cfg(archive)]
+mod compare_lent;
+#[cfg(archive)]
 mod compare_receiver;
 mod compare_replay;
 #[cfg(archive)]
@@ -43,6 +45,7 @@ mod random;
 mod receiver;
 mod record;
 mod refusals;
+mod relay;
 mod replay;
 mod report;
 #[cfg(archive)]
@@ -60,6 +63,7 @@ paper replay < TRACE                the lines of document 01's replay program
 paper compare-replay PROGRAM COUNT  the program's lines against these, over COUNT inputs
 paper compare-archive COUNT         the archive's calls against these, over COUNT rounds (built with --cfg archive)
 paper trace-large > TRACE           a trace of a million events, for timing
+paper relay                         what examples/relay.c prints before its times
 paper week < FILE                   the page of document 02's week's totals
 paper compare-week PROGRAM COUNT    the program's pages against these, over COUNT files
 paper week-large BYTES > FILE       a week of so many bytes, for timing";
@@ -74,6 +78,7 @@ fn main() {
         #[cfg(archive)]
         ["compare-archive", count] => compare_archive::run(number(count)),
         ["trace-large"] => io::stdout().write_all(&traces::large()).map_err(|error| error.to_string()),
+        ["relay"] => relay::run(io::stdout().lock()),
         ["week"] => week::run(io::stdin().lock(), io::stdout().lock()).map_err(|error| error.to_string()),
         ["compare-week", program, count] => compare_week::run(program, number(count)),
         ["week-large", bytes] => weeks::large(number(bytes), io::stdout().lock()).map_err(|error| error.to_string()),

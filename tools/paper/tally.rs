@@ -7,7 +7,7 @@ use std::collections::BTreeMap;
 use std::fmt::Debug;
 
 /// Each call with every result that it can give.
-const CAN_GIVE: [(&str, &[u64]); 23] = [
+const CAN_GIVE: [(&str, &[u64]); 27] = [
     ("open", &[0, 5, 4]),
     ("packet", &[0, 1, 5, 6, 7]),
     ("timer", &[0, 1, 5]),
@@ -16,6 +16,10 @@ const CAN_GIVE: [(&str, &[u64]); 23] = [
     ("write 02", &[0, 1, 5, 8, 9]),
     ("write 03", &[0, 1, 5, 8, 9]),
     ("confirm", &[0, 1, 5, 8, 19]),
+    ("packet_lent", &[0, 1, 5, 6, 7]),
+    ("timer_lent", &[0, 1, 5]),
+    ("write_lent 02", &[0, 1, 5, 8, 9]),
+    ("write_lent 03", &[0, 1, 5, 8, 9]),
     ("read_number", &[0, 2]),
     ("put_number", &[0, 5, 9]),
     ("read_frequency", &[0, 2, 3]),
@@ -177,6 +181,7 @@ impl Tally {
 }
 
 /// A lent buffer with other memory on both sides; all of it is compared.
+#[derive(Clone)]
 pub struct Lent {
     pub memory: Vec<u8>,
     pub length: usize,
@@ -192,4 +197,23 @@ impl Lent {
     pub fn buffer(&mut self) -> &mut [u8] {
         &mut self.memory[AROUND..AROUND + self.length]
     }
+}
+
+/// A lent record with other memory on both sides.
+#[repr(C)]
+struct Lending<T> {
+    before: [u64; 4],
+    record: T,
+    behind: [u64; 4],
+}
+
+/// What a call of the archive answers and leaves in a lent record; it must not touch the memory around.
+pub fn leaves<T: Copy, A>(given: &T, call: impl FnOnce(*mut T) -> A) -> Result<(A, T), String> {
+    let around = [0x5555_aaaa_5555_aaaa; 4];
+    let mut lending = Lending { before: around, record: *given, behind: around };
+    let answer = call(&mut lending.record);
+    if lending.before != around || lending.behind != around {
+        return Err("a call wrote beside its lent record".to_string());
+    }
+    Ok((answer, lending.record))
 }

@@ -68,6 +68,15 @@ pub struct Wrote {
     pub next: Receiver,
 }
 
+/// `lumbixet_wrote_lent`: what the write call answers where the record is lent.
+#[repr(C)]
+#[derive(Clone, Copy, Debug, PartialEq, Eq)]
+#[allow(missing_docs)]
+pub struct WroteLent {
+    pub result: u64,
+    pub length: u64,
+}
+
 /// `lumbixet_number`: a number that was read, the place after it, and 1 where its form was the shortest.
 #[repr(C)]
 #[derive(Clone, Copy, Debug, Default, PartialEq, Eq)]
@@ -218,6 +227,9 @@ extern "C" {
     pub fn lumbixet_immediate(receiver: Receiver) -> Answer;
     pub fn lumbixet_confirm(receiver: Receiver, largest: u64) -> Answer;
     pub fn lumbixet_write(receiver: Receiver, time_us: u64, counts: bool, buffer: *mut u8, length: usize) -> Wrote;
+    pub fn lumbixet_packet_lent(receiver: *mut Receiver, number: u64, time_us: u64, eliciting: bool, ecn: u64) -> u64;
+    pub fn lumbixet_timer_lent(receiver: *mut Receiver, time_us: u64) -> u64;
+    pub fn lumbixet_write_lent(receiver: *mut Receiver, time_us: u64, counts: bool, buffer: *mut u8, length: usize) -> WroteLent;
     pub fn lumbixet_read_report(bytes: *const u8, length: usize) -> Report;
     pub fn lumbixet_find_entries(bytes: *const u8, length: usize) -> Entries;
     pub fn lumbixet_read_entry(entries: *const u8, length: usize, index: usize) -> EntryFound;

@@ -30,7 +30,8 @@ pub struct Packet {
     pub mark: Mark,
 }
 
-/// The receiver of one packet number space. A refused call leaves it as it was.
+/// The receiver of one packet number space. A refused call leaves it as it was. Packets, timer and writes update the record
+/// where it stands; the rarer calls hand it over by value.
 #[derive(Clone, Copy, Debug, PartialEq, Eq)]
 pub struct Receiver {
     record: raw::Receiver,
@@ -52,7 +53,8 @@ impl Receiver {
     /// [`Refusal::Inconsistent`], [`Refusal::TooLarge`], then [`Refusal::Repeated`] or [`Refusal::BelowWindow`].
     pub fn packet(&mut self, packet: Packet) -> Result<Option<Cause>, Refusal> {
         let Packet { number, time, eliciting, mark } = packet;
-        self.take(unsafe { raw::lumbixet_packet(self.record, number, time.0, eliciting, mark.ecn()) })
+        let result = unsafe { raw::lumbixet_packet_lent(&mut self.record, number, time.0, eliciting, mark.ecn()) };
+        accepted(result).map(|()| self.cause())
     }
 
     /// The timer is looked at. Says why an acknowledgment is due now, if one is.
@@ -60,7 +62,8 @@ impl Receiver {
     /// # Errors
     /// [`Refusal::Inconsistent`], [`Refusal::TooLarge`].
     pub fn timer(&mut self, now: Micros) -> Result<Option<Cause>, Refusal> {
-        self.take(unsafe { raw::lumbixet_timer(self.record, now.0) })
+        let result = unsafe { raw::lumbixet_timer_lent(&mut self.record, now.0) };
+        accepted(result).map(|()| self.cause())
     }
 
     /// An IMMEDIATE_ACK frame arrives. Says why an acknowledgment is due now: an earlier cause stays.
@@ -94,7 +97,8 @@ impl Receiver {
     }
 
     /// Writes an ACK frame of type 02 at the start of the buffer, with as many newest ranges as fit, and gives the frame's
-    /// bytes. It may be written whether one is due or not. [`ACK_ROOM`](crate::ACK_ROOM) bytes hold all ranges.
+    /// bytes. It may be written whether one is due or not. [`ACK_ROOM`](crate::ACK_ROOM) bytes hold all ranges. Where sending
+    /// may fail, keep a copy of the receiver from before: with it the ACK is still due.
     ///
     /// # Errors
     /// [`Refusal::Inconsistent`], [`Refusal::TooLarge`], [`Refusal::NothingYet`], [`Refusal::NoRoom`].
@@ -112,10 +116,9 @@ impl Receiver {
     }
 
     fn write_as<'a>(&mut self, now: Micros, counts: bool, buffer: &'a mut [u8]) -> Result<&'a [u8], Refusal> {
-        let wrote = unsafe { raw::lumbixet_write(self.record, now.0, counts, buffer.as_mut_ptr(), buffer.len()) };
-        accepted(wrote.result)?;
-        self.record = wrote.next;
-        Ok(&buffer[..wrote.length as usize])
+        let (start, room) = (buffer.as_mut_ptr(), buffer.len());
+        let wrote = unsafe { raw::lumbixet_write_lent(&mut self.record, now.0, counts, start, room) };
+        accepted(wrote.result).map(|()| &buffer[..wrote.length as usize])
     }
 
     /// Why an acknowledgment is due, if one is.
@@ -176,6 +179,7 @@ impl Receiver {
         Receiver { record }
     }
 
+    /// Takes the record that a call by value handed back.
     fn take(&mut self, answer: raw::Answer) -> Result<Option<Cause>, Refusal> {
         accepted(answer.result)?;
         self.record = answer.next;

@@ -5,6 +5,7 @@ use lumbixet::*;
 /// What hosts in C read.
 const HEADERS: &str = concat!(
     include_str!("../../../include/lumbixet.h"),
+    include_str!("../../../include/lumbixet_lent.h"),
     include_str!("../../../include/lumbixet_report.h"),
     include_str!("../../../include/lumbixet_text.h"),
     include_str!("../../../include/lumbixet_tracker.h")

@@ -4,15 +4,15 @@ ghost use Rattle.receiver.specs.Packet.{packetCall};
 ghost use Rattle.receiver.specs.Calls.{openCall, timerCall, immediateCall, thresholdCall};
 ghost use Rattle.receiver.specs.Confirm.{confirmCall};
 ghost use Rattle.receiver.specs.Write.{writeAnswer, writeBytes};
-ghost use Rattle.host.specs.Calls.{millis, micros, markOf, kindOf, verdictOut, heardOut};
+ghost use Rattle.receiver.specs.Given.{millis, micros, markOf, kindOf};
+ghost use Rattle.host.specs.Calls.{verdictOut, heardOut};
 use receiver::Answer;
 use receiver::Heard;
-use receiver::Kind;
-use receiver::Mark;
 use receiver::Millis;
 use receiver::Receiver;
 use receiver::Verdict;
 use receiver::Wrote;
+use receiver::given;
 use seen::Micros;
 
 // The result of a stale frame, which is neither accepted nor refused.
@@ -27,29 +27,6 @@ fn verdict_out(verdict: Verdict) -> u64
         Verdict::Stale => STALE,
         Verdict::Refused(n) => n,
     }
-}
-
-// The mark that the ECN field of the IP header tells (RFC 3168). Only the two low bits count, so that a host may hand over the whole traffic class byte.
-fn mark_of(ecn: u64) -> Mark
-    ensures { λ r. ⌜ r ≡ markOf ecn ⌝ }
-{
-    let field = ecn % 4;
-    match field {
-        0 => Mark::None,
-        1 => Mark::Ect1,
-        2 => Mark::Ect0,
-        _ => Mark::Ce,
-    }
-}
-
-// The type of an ACK: 03 with counts, 02 without.
-fn kind_of(counts: bool) -> Kind
-    ensures { λ r. ⌜ r ≡ kindOf counts ⌝ }
-{
-    if counts {
-        return Kind::Counts;
-    }
-    Kind::Plain
 }
 
 // Opens a receiver: T, R, the own maximum delay in milliseconds and the own minimum delay in microseconds.
@@ -76,7 +53,7 @@ pub extern "C" fn lumbixet_packet(
 ) -> Answer
     ensures { λ r. ⌜ r ≡ packetCall receiver number (micros time) eliciting (markOf ecn) ⌝ }
 {
-    let mark = mark_of(ecn);
+    let mark = given::mark_of(ecn);
     receiver.packet(number, Micros(time), eliciting, mark)
 }
 
@@ -132,6 +109,6 @@ pub extern "C" fn lumbixet_write(
 ) -> Wrote
     ensures { λ r. ⌜ (r ≡ writeAnswer receiver (micros time) (kindOf counts) (now (buffer .entry))) × (now (buffer .exit) ≡ writeBytes receiver (micros time) (kindOf counts) (now (buffer .entry))) ⌝ }
 {
-    let kind = kind_of(counts);
+    let kind = given::kind_of(counts);
     receiver.write(Micros(time), kind, buffer)
 }

@@ -1,5 +1,6 @@
 pub mod Totals
 pub mod Record
+pub mod Given
 pub mod Consistent
 pub mod Packet
 pub mod Calls

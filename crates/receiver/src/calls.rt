@@ -2,9 +2,11 @@
 ghost use mathlib.Core.Path.{_≡_};
 ghost use Prim.Native.Nat.{_<_};
 ghost use mathlib.Core.Bool.{_&&_};
+ghost use lib.Dec.{eqb};
+ghost use Rattle.wire.specs.Bytes.{pick};
 ghost use Rattle.seen.specs.Numbers.{small};
 ghost use Rattle.receiver.specs.Packet.{standing};
-ghost use Rattle.receiver.specs.Calls.{opened, usual, openCall, timerDue, timerCall, immediateCall, heard, thresholdCall};
+ghost use Rattle.receiver.specs.Calls.{opened, usual, openCall, timerDue, timerRefusal, timerCall, immediateCall, heard, thresholdCall};
 ghost use Rattle.receiver.specs.declared.Verdict.the-variants.{Stale, Refused};
 use crate::Agreed;
 use crate::Answer;
@@ -159,21 +161,45 @@ impl Receiver {
         agreed.delay.0 <= numbers::minus_or_zero(time.0, pending.first.0)
     }
 
-    // The timer is looked at.
+    // Why the timer call is refused, or 0. The two halves of `consistent` are asked by themselves, so that in an archive with packet it has one caller and is taken in line.
+    fn timer_refusal(self, time: Micros) -> u64
+        ensures { λ r. ⌜ r ≡ timerRefusal self time ⌝ }
+    {
+        if !self.rest_consistent() {
+            return 1;
+        }
+        let seen = self.seen;
+        if !seen.consistent() {
+            return 1;
+        }
+        if !numbers::is_small(time.0) {
+            return 5;
+        }
+        0
+    }
+
+    // The cause after the timer call; a refused one leaves it.
+    fn timer_cause(self, refusal: u64, time: Micros) -> u64
+        ensures { λ r. ⌜ r ≡ pick (eqb refusal 0) (standing (self .cause) (pick (timerDue self time) 5 0)) (self .cause) ⌝ }
+    {
+        if refusal != 0 {
+            return self.cause;
+        }
+        if self.timer_due(time) {
+            return standing(self.cause, 5);
+        }
+        self.cause
+    }
+
+    // The timer is looked at. Refused or not, the next record is built in one place, so that of a lent one the cause alone is stored.
     pub fn timer(self, time: Micros) -> Answer
         ensures { λ r. ⌜ r ≡ timerCall self time ⌝ }
     {
-        if !self.consistent() {
-            return Answer::refused(1, self);
-        }
-        if !numbers::is_small(time.0) {
-            return Answer::refused(5, self);
-        }
+        let result = self.timer_refusal(time);
+        let cause = self.timer_cause(result, time);
         let mut next = self;
-        if self.timer_due(time) {
-            next.cause = standing(self.cause, 5);
-        }
-        Answer { result: 0, next }
+        next.cause = cause;
+        Answer { result, next }
     }
 
     // An ACK_FREQUENCY frame arrives: its sequence, T, requested delay and R.

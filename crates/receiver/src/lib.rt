@@ -11,6 +11,7 @@ mod confirm;
 mod consistent;
 mod delays;
 mod ecn;
+pub mod given;
 mod packet;
 mod write;
 

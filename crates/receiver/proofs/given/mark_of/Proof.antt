@@ -1,9 +1,9 @@
--- `host::calls::mark_of` meets its contract: the arm taken is the code's.
+-- `receiver::given::mark_of` meets its contract: the arm taken is the code's.
 -- Assumes nothing.
 use borrow.Author.Tests.{ne-eqb}
-use Rattle.host.specs.Calls.{markOf}
-use Rattle.host.proofs.calls.mark_of.Statement.{statement}
-use Rattle.host.proofs.calls.mark_of.Tie as tie
+use Rattle.receiver.specs.Given.{markOf}
+use Rattle.receiver.proofs.given.mark_of.Statement.{statement}
+use Rattle.receiver.proofs.given.mark_of.Tie as tie
 
 returns : tie.Need-returns
 unfolding markOf

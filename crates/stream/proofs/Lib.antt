@@ -1,2 +1,0 @@
-pub mod Streaming
-pub mod Only
