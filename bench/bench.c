@@ -52,8 +52,10 @@ static const struct row rows[] = {
     {"lent: ACK written, 1 range", write_acks_lent, ONE_RANGE},
     {"lent: ACK written, 8 ranges", write_acks_lent, EIGHT_RANGES},
     {"lent: ACK written, 64 ranges", write_acks_lent, SIXTY_FOUR_RANGES},
-    {"report of 50 entries read", read_reports, 0},
-    {"report of 50 entries written", write_reports, 0},
+    {"report of 50 entries read", read_reports, OLD_LIST},
+    {"report of 200 entries read", read_reports, LONG_LIST},
+    {"report of 50 entries written", write_reports, OLD_LIST},
+    {"report of 200 entries written", write_reports, LONG_LIST},
     {"object arrived, record lent", arrive_objects, 0},
     {"report of 256 objects made, all arrived", report_objects, 0},
     {"report of 256 objects made, 255 lost", report_objects, 1},
@@ -117,6 +119,23 @@ static void print_bytes(void)
            mean_bytes(SITTINGS), mean_bytes(CONFIRMED));
 }
 
+/* The best round of the archive for a row. */
+static double best_of(double (*round)(const struct side *, int, int), int kind)
+{
+    for (size_t i = 0; i < sizeof rows / sizeof rows[0]; i++)
+        if (rows[i].round == round && rows[i].kind == kind)
+            return best[i][0];
+    return 0;
+}
+
+/* A line, not a curve: what an entry costs in a long report beside what it costs in one of 50. */
+static void print_entries(void)
+{
+    printf("An entry takes the archive %.2f ns to read in a report of 50 and %.2f in one of 200; %.2f and %.2f to write.\n",
+           best_of(read_reports, OLD_LIST) / 50, best_of(read_reports, LONG_LIST) / 200,
+           best_of(write_reports, OLD_LIST) / 50, best_of(write_reports, LONG_LIST) / 200);
+}
+
 /* The processor's own name, as the system tells it. */
 static void print_machine(void)
 {
@@ -153,5 +172,6 @@ int main(void)
     time_all();
     print_table();
     print_bytes();
+    print_entries();
     return 0;
 }

@@ -7,7 +7,7 @@
 
 #include "inputs.h"
 
-uint8_t left[2048], right[2048];
+uint8_t left[4096], right[4096];
 
 static uint64_t count;
 static uint64_t state = 11;

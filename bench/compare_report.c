@@ -21,14 +21,22 @@ static void compare_read_report(const uint8_t *bytes, size_t length)
     lumbixet_entries c = archive.find_entries(bytes, length);
     lumbixet_entries d = plain.find_entries(bytes, length);
     check(memcmp(&c, &d, sizeof c) == 0, "find_entries");
-    compare_read_entry(bytes + c.start, c.length, below(ENTRIES + 2));
+    compare_read_entry(bytes + c.start, c.length, below(LUMBIXET_ENTRIES + 2));
+}
+
+/* A maximum: mostly the limit, else one below it or near an edge. */
+static uint64_t any_maximum(void)
+{
+    uint64_t kind = below(4);
+    return kind < 2 ? LUMBIXET_ENTRIES : kind == 2 ? below(LUMBIXET_ENTRIES + 2) : any_number();
 }
 
 static void compare_write_report(size_t room, lumbixet_header header, const uint8_t *records, size_t length)
 {
     fill_buffers();
-    lumbixet_written a = archive.write_report(left, room, header, records, length);
-    lumbixet_written b = plain.write_report(right, room, header, records, length);
+    uint64_t maximum = any_maximum();
+    lumbixet_written a = archive.write_report(left, room, header, records, length, maximum);
+    lumbixet_written b = plain.write_report(right, room, header, records, length, maximum);
     check(memcmp(&a, &b, sizeof a) == 0 && same_buffers(), "write_report");
     if (a.result == 0)
         compare_read_report(left, a.next);
@@ -47,44 +55,52 @@ static lumbixet_header spoiled_header(lumbixet_header h)
 }
 
 /* Every value at every place of a header. */
-static void compare_changed_headers(void)
+static void compare_changed_headers(const struct reports *given)
 {
-    uint8_t bytes[FRAME_ROOM];
-    memcpy(bytes, reports.bytes[0], sizeof bytes);
+    uint8_t bytes[REPORT_ROOM];
+    memcpy(bytes, given->bytes[0], sizeof bytes);
     for (size_t place = 0; place < 32; place++) {
         for (int value = 0; value < 256; value++) {
             bytes[place] = (uint8_t)value;
-            compare_read_report(bytes, reports.lengths[0]);
+            compare_read_report(bytes, given->lengths[0]);
         }
-        bytes[place] = reports.bytes[0][place];
+        bytes[place] = given->bytes[0][place];
     }
 }
 
-/* Each report whole, cut and with one byte changed; each written in every room and with a made-up header or record. */
-static void compare_timed_reports(void)
+/* Records of every length, whole or not, each in some room and in every room. */
+static void compare_records(const struct reports *given)
 {
     static uint8_t many[257 * 16 + 1];
     for (size_t i = 0; i < 257; i++)
         many[16 * i + 6] = (uint8_t)(i >> 8), many[16 * i + 7] = (uint8_t)i;
-    for (size_t length = 0; length <= sizeof many; length++)
-        compare_write_report(length % 1000, reports.headers[length % VARIANTS], many, length);
+    for (size_t length = 0; length <= sizeof many; length++) {
+        size_t room = below(REPORT_ROOM);
+        compare_write_report(room, given->headers[length % VARIANTS], many, length);
+        compare_write_report(length % REPORT_ROOM, given->headers[length % VARIANTS], many, 256 * 16);
+    }
+}
+
+/* Each report whole, cut and with one byte changed; each written in every room and with a made-up header or record. */
+static void compare_timed_reports(struct reports *given)
+{
     for (size_t v = 0; v < VARIANTS; v++) {
-        uint8_t *bytes = reports.bytes[v];
-        size_t length = reports.lengths[v];
+        uint8_t *bytes = given->bytes[v];
+        size_t length = given->lengths[v];
         for (size_t cut = 0; cut <= length; cut++) {
             compare_read_report(bytes, cut);
             uint8_t kept = bytes[cut];
             bytes[cut] ^= (uint8_t)(1 << below(8));
             compare_read_report(bytes, length + below(2));
             bytes[cut] = kept;
-            compare_write_report(cut, reports.headers[v], reports.records[v], sizeof reports.records[v]);
-            size_t place = below(sizeof reports.records[v]);
-            uint8_t *byte = &reports.records[v][place];
+            compare_write_report(cut, given->headers[v], given->records[v], given->size);
+            size_t place = below(given->size);
+            uint8_t *byte = &given->records[v][place];
             kept = *byte;
             *byte ^= (uint8_t)(1 << below(8));
-            compare_read_entry(reports.records[v], sizeof reports.records[v], place / 16);
-            compare_write_report(FRAME_ROOM, reports.headers[v], reports.records[v], sizeof reports.records[v]);
-            compare_write_report(FRAME_ROOM, spoiled_header(reports.headers[v]), reports.records[v], 16 * (cut % 9));
+            compare_read_entry(given->records[v], given->size, place / 16);
+            compare_write_report(REPORT_ROOM, given->headers[v], given->records[v], given->size);
+            compare_write_report(REPORT_ROOM, spoiled_header(given->headers[v]), given->records[v], 16 * (cut % 9));
             *byte = kept;
         }
     }
@@ -92,6 +108,9 @@ static void compare_timed_reports(void)
 
 void compare_reports(void)
 {
-    compare_changed_headers();
-    compare_timed_reports();
+    compare_records(&reports[OLD_LIST]);
+    for (int kind = 0; kind < REPORT_KINDS; kind++) {
+        compare_changed_headers(&reports[kind]);
+        compare_timed_reports(&reports[kind]);
+    }
 }

@@ -9,7 +9,7 @@
 struct numbers numbers;
 struct acks acks[ACK_KINDS];
 struct traffic traffic[PATTERNS][2];
-struct reports reports;
+struct reports reports[REPORT_KINDS];
 
 uint64_t pick(uint64_t *state)
 {
@@ -151,7 +151,7 @@ static void make_record(uint8_t *record, uint64_t object, uint64_t *state)
 /* One statement for each number drawn: an initialiser leaves their order open. */
 static void make_header(lumbixet_header *h, uint64_t *state)
 {
-    *h = (lumbixet_header){.interval = 100000, .metrics = 2, .kinds = {0x02, 0x10}, .entries = ENTRIES};
+    *h = (lumbixet_header){.interval = 100000, .metrics = 2, .kinds = {0x02, 0x10}};
     h->timestamp = pick(state) % 100000000;
     h->received = pick(state) % 100;
     h->late = pick(state) % 10;
@@ -162,21 +162,22 @@ static void make_header(lumbixet_header *h, uint64_t *state)
     h->total = h->received + h->late + h->lost;
 }
 
-static void make_reports(void)
+static void make_reports(struct reports *made, size_t entries)
 {
     uint64_t state = 4;
+    made->size = 16 * entries;
     for (size_t v = 0; v < VARIANTS; v++) {
-        lumbixet_header *h = &reports.headers[v];
+        lumbixet_header *h = &made->headers[v];
         make_header(h, &state);
         uint64_t object = pick(&state) % 1000000;
-        for (size_t i = 0; i < ENTRIES; i++) {
+        for (size_t i = 0; i < entries; i++) {
             object += 1 + pick(&state) % 2;
-            make_record(reports.records[v] + 16 * i, object, &state);
+            make_record(made->records[v] + 16 * i, object, &state);
         }
         lumbixet_written written =
-            plain_write_report(reports.bytes[v], FRAME_ROOM, *h, reports.records[v], sizeof reports.records[v]);
-        expect(written.result == 0 && written.kept == ENTRIES, "a report");
-        reports.lengths[v] = written.next;
+            plain_write_report(made->bytes[v], REPORT_ROOM, *h, made->records[v], made->size, LUMBIXET_ENTRIES);
+        expect(written.result == 0 && written.kept == entries, "a report");
+        made->lengths[v] = written.next;
     }
 }
 
@@ -194,5 +195,6 @@ void make_inputs(void)
         make_traffic(&traffic[pattern][0], pattern, 1);
         make_traffic(&traffic[pattern][1], pattern, 3);
     }
-    make_reports();
+    make_reports(&reports[OLD_LIST], LUMBIXET_OLD_ENTRIES);
+    make_reports(&reports[LONG_LIST], LUMBIXET_ENTRIES);
 }

@@ -15,7 +15,7 @@ enum {
     BLOCK = 32,      /* packets between two writes */
     STEP_US = 100,   /* microseconds between two packets */
     SITTING = 45000 * BLOCK, /* packets of two hours, one every 5 ms */
-    ENTRIES = 50
+    REPORT_ROOM = 4000
 };
 
 struct numbers {
@@ -42,9 +42,10 @@ struct traffic {
 };
 
 struct reports {
+    size_t size; /* of all records of a report, in bytes */
     lumbixet_header headers[VARIANTS];
-    uint8_t records[VARIANTS][ENTRIES * 16];
-    uint8_t bytes[VARIANTS][FRAME_ROOM];
+    uint8_t records[VARIANTS][LUMBIXET_ENTRIES * 16];
+    uint8_t bytes[VARIANTS][REPORT_ROOM];
     size_t lengths[VARIANTS];
 };
 
@@ -52,11 +53,13 @@ struct reports {
  * confirmed before the next one. */
 enum { ONE_RANGE, EIGHT_RANGES, SIXTY_FOUR_RANGES, COUNTED, SITTINGS, CONFIRMED, ACK_KINDS };
 enum { IN_ORDER, LOSS, SWAPPED, PATTERNS };
+/* So many entries each: as many as old receivers take, and as many as there may be. */
+enum { OLD_LIST, LONG_LIST, REPORT_KINDS };
 
 extern struct numbers numbers;
 extern struct acks acks[ACK_KINDS];
 extern struct traffic traffic[PATTERNS][2]; /* R = 1, R = 3 */
-extern struct reports reports;
+extern struct reports reports[REPORT_KINDS];
 
 void make_inputs(void);
 

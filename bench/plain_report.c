@@ -1,9 +1,9 @@
-/* The feedback report by hand from document 01: the same answers and refusals as the archive, and no proof. */
+/* The feedback report by hand from documents 01 and 02: the same answers and refusals as the archive, and no proof. */
 #include "plain_numbers.h"
 
 #define RECORD 16
 #define MOST_METRICS 4
-#define MOST_ENTRIES 50
+#define MOST_ENTRIES 200
 #define MOST_GIVEN 256
 
 static inline bool known_type(uint64_t kind)
@@ -166,10 +166,21 @@ static inline uint8_t *store_header(uint8_t *buffer, const lumbixet_header *h)
     return p;
 }
 
+/* How many of so many records fit behind a header of so many bytes: from 64 on the count takes two. */
+static inline size_t fitting(size_t given, size_t room)
+{
+    size_t kept = room / RECORD;
+    if (kept > 63)
+        kept = (room - 1) / RECORD;
+    return kept < given ? kept : given;
+}
+
 lumbixet_written plain_write_report(uint8_t *buffer, size_t length, lumbixet_header header, const uint8_t *records,
-                                    size_t records_length)
+                                    size_t records_length, uint64_t maximum)
 {
     uint64_t result = header_refusal(&header);
+    if (!result && maximum > MOST_ENTRIES)
+        result = LUMBIXET_COUNT_OR_TYPE;
     if (!result)
         result = records_refusal(records, records_length);
     if (result)
@@ -177,12 +188,9 @@ lumbixet_written plain_write_report(uint8_t *buffer, size_t length, lumbixet_hea
     size_t head = header_width(&header);
     if (length <= head)
         return (lumbixet_written){.result = LUMBIXET_NO_ROOM};
-    size_t kept = records_length / RECORD;
-    if (kept > MOST_ENTRIES)
-        kept = MOST_ENTRIES;
-    if (kept > (length - head - 1) / RECORD)
-        kept = (length - head - 1) / RECORD;
+    size_t given = records_length / RECORD;
+    size_t kept = fitting(given < maximum ? given : maximum, length - head - 1);
     uint8_t *p = store(store_header(buffer, &header), kept);
     memcpy(p, records + records_length - kept * RECORD, kept * RECORD);
-    return (lumbixet_written){LUMBIXET_ACCEPTED, head + 1 + kept * RECORD, kept};
+    return (lumbixet_written){LUMBIXET_ACCEPTED, (size_t)(p - buffer) + kept * RECORD, kept};
 }

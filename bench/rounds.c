@@ -112,12 +112,12 @@ double look_at_timer(const struct side *side, int kind, int round)
 
 double read_reports(const struct side *side, int kind, int round)
 {
-    (void)kind;
     (void)round;
+    const struct reports *r = &reports[kind];
     uint64_t sum = 0;
     uint64_t from = now();
     for (size_t i = 0; i < CALLS; i++) {
-        lumbixet_report report = side->read_report(reports.bytes[i % VARIANTS], reports.lengths[i % VARIANTS]);
+        lumbixet_report report = side->read_report(r->bytes[i % VARIANTS], r->lengths[i % VARIANTS]);
         sum += report.header.total + report.header.entries;
     }
     uint64_t passed = since(from);
@@ -127,15 +127,15 @@ double read_reports(const struct side *side, int kind, int round)
 
 double write_reports(const struct side *side, int kind, int round)
 {
-    (void)kind;
     (void)round;
-    uint8_t buffer[FRAME_ROOM];
+    const struct reports *r = &reports[kind];
+    uint8_t buffer[REPORT_ROOM];
     uint64_t sum = 0;
     uint64_t from = now();
     for (size_t i = 0; i < CALLS; i++) {
         size_t v = i % VARIANTS;
-        lumbixet_written written = side->write_report(buffer, sizeof buffer, reports.headers[v], reports.records[v],
-                                                      sizeof reports.records[v]);
+        lumbixet_written written =
+            side->write_report(buffer, sizeof buffer, r->headers[v], r->records[v], r->size, LUMBIXET_ENTRIES);
         sum += written.next + buffer[written.next - 1];
     }
     uint64_t passed = since(from);

@@ -25,7 +25,7 @@ struct side {
     lumbixet_report (*read_report)(const uint8_t *, size_t);
     lumbixet_entries (*find_entries)(const uint8_t *, size_t);
     lumbixet_entry (*read_entry)(const uint8_t *, size_t, size_t);
-    lumbixet_written (*write_report)(uint8_t *, size_t, lumbixet_header, const uint8_t *, size_t);
+    lumbixet_written (*write_report)(uint8_t *, size_t, lumbixet_header, const uint8_t *, size_t, uint64_t);
     uint64_t (*tracker_open)(lumbixet_tracker *, uint64_t, uint64_t);
     uint64_t (*tracker_arrived)(lumbixet_tracker *, uint64_t, uint64_t, uint64_t);
     uint64_t (*tracker_ended_early)(lumbixet_tracker *, uint64_t, uint64_t);

@@ -178,7 +178,7 @@ static void report(void)
     };
     lumbixet_header header = {.timestamp = 1000000, .interval = 100000, .total = 3, .received = 1, .late = 1, .lost = 1, .average = -2};
     uint8_t buffer[47];
-    lumbixet_written written = lumbixet_write_report(buffer, sizeof buffer, header, records, sizeof records);
+    lumbixet_written written = lumbixet_write_report(buffer, sizeof buffer, header, records, sizeof records, LUMBIXET_ENTRIES);
     must(written.result, "writing the report");
     printf("A report of %" PRIu64 " objects is written into %zu bytes. It takes %" PRIu64 ", and keeps the last %" PRIu64 " of 3 records.\n",
            header.total, sizeof buffer, written.next, written.kept);
@@ -187,12 +187,30 @@ static void report(void)
     read_report(buffer, written.next);
     printf("The report without its last byte.");
     read_report(buffer, written.next - 1);
-    uint8_t longer[sizeof buffer + 1];
+    uint8_t longer[sizeof buffer + 1] = {[14] = 0x40};
     memcpy(longer, buffer, 14);
-    longer[14] = 0x40;
     memcpy(longer + 15, buffer + 14, sizeof buffer - 14);
     printf("The report with its entry count in two bytes, 40 02.");
     read_report(longer, written.next + 1);
+}
+
+/* Seventy objects did not come; the report has at most so many entries. */
+static void lost(uint64_t maximum)
+{
+    uint8_t records[70 * 16] = {0}, buffer[LUMBIXET_REPORT_ROOM];
+    for (uint8_t i = 0; i < 70; i++) {
+        records[16 * i + 7] = (uint8_t)(100 + i);
+        records[16 * i + 8] = LUMBIXET_NOT_RECEIVED;
+    }
+    lumbixet_header header = {.timestamp = 1000000, .interval = 100000, .total = 70, .lost = 70};
+    lumbixet_written written = lumbixet_write_report(buffer, sizeof buffer, header, records, sizeof records, maximum);
+    printf("A report of 70 lost objects with at most %" PRIu64 " entries.", maximum);
+    if (written.result != LUMBIXET_ACCEPTED) {
+        refused(written.result);
+        return;
+    }
+    lumbixet_entry first = lumbixet_read_entry(buffer + written.next - 16 * written.kept, 16 * written.kept, 0);
+    printf(" It takes %" PRIu64 " bytes, and has the last %" PRIu64 ", from object %" PRIu64 " on.\n", written.next, written.kept, first.object);
 }
 
 int main(void)
@@ -202,12 +220,9 @@ int main(void)
     must(opened.result, "opening");
     lumbixet_receiver receiver = opened.next;
     rules(&receiver);
-    packet(&receiver, 0, 1000, LUMBIXET_ECN_NONE);
-    packet(&receiver, 1, 2000, LUMBIXET_ECN_NONE);
-    packet(&receiver, 3, 4000, LUMBIXET_ECN_NONE);
-    packet(&receiver, 4, 5000, LUMBIXET_ECN_NONE);
-    packet(&receiver, 5, 6000, LUMBIXET_ECN_NONE);
-    packet(&receiver, 5, 6100, LUMBIXET_ECN_NONE);
+    static const uint64_t arrivals[][2] = {{0, 1000}, {1, 2000}, {3, 4000}, {4, 5000}, {5, 6000}, {5, 6100}};
+    for (size_t i = 0; i < sizeof arrivals / sizeof arrivals[0]; i++)
+        packet(&receiver, arrivals[i][0], arrivals[i][1], LUMBIXET_ECN_NONE);
     acknowledge(&receiver, 6400, false, ROOM);
 
     puts("\nThe sender asks for other rules");
@@ -255,5 +270,10 @@ int main(void)
 
     puts("\nThe report");
     report();
+
+    puts("\nMany small objects are lost, and some receivers are old");
+    lost(LUMBIXET_ENTRIES);
+    lost(LUMBIXET_OLD_ENTRIES);
+    lost(LUMBIXET_ENTRIES + 1);
     return 0;
 }

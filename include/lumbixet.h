@@ -19,7 +19,8 @@
  * and fields, and so change the size of a struct: compile header and archive of one version. 0.2 brought lumbixet_tracker.h,
  * `confirmed` and lumbixet_confirm. 0.3 brought the totals of marks: lumbixet_packet takes the ECN field in place
  * of the CE mark, lumbixet_write takes which ACK to write, and a record is 288 bytes; one that was kept by an
- * earlier version is opened anew. 0.4 brought lumbixet_lent.h. Announced are more metrics in lumbixet_header. Numbers keep
+ * earlier version is opened anew. 0.4 brought lumbixet_lent.h. 0.5 brought reports of 200 entries:
+ * lumbixet_write_report takes the most that it may write. Announced are more metrics in lumbixet_header. Numbers keep
  * their meaning.
  */
 #ifndef LUMBIXET_H
@@ -35,10 +36,10 @@ extern "C" {
 
 /* The version of this header and of the archive that goes with it: its parts, one number to compare, and its name. */
 #define LUMBIXET_VERSION_MAJOR 0
-#define LUMBIXET_VERSION_MINOR 4
+#define LUMBIXET_VERSION_MINOR 5
 #define LUMBIXET_VERSION_PATCH 0
 #define LUMBIXET_VERSION (10000 * LUMBIXET_VERSION_MAJOR + 100 * LUMBIXET_VERSION_MINOR + LUMBIXET_VERSION_PATCH)
-#define LUMBIXET_VERSION_TEXT "0.4.0"
+#define LUMBIXET_VERSION_TEXT "0.5.0"
 
 /* The largest number, threshold and time: 2^62 - 1. */
 #define LUMBIXET_LARGEST UINT64_C(4611686018427387903)
@@ -46,7 +47,7 @@ extern "C" {
 /* Room that always suffices; tools/check-room.c computes each again. */
 #define LUMBIXET_ACK_ROOM 1066     /* bytes of an ACK frame with counts and every range that the window can have */
 #define LUMBIXET_FREQUENCY_ROOM 34 /* bytes of an ACK_FREQUENCY frame */
-#define LUMBIXET_REPORT_ROOM 894   /* bytes of a report with 4 metrics and 50 entries */
+#define LUMBIXET_REPORT_ROOM 3295  /* bytes of a report with 4 metrics and 200 entries */
 #define LUMBIXET_RANGES_ROOM(bytes) ((bytes) > 5 ? (bytes) - 3 : 2) /* numbers for the ranges of an ACK of so many bytes */
 
 /* What `result` says. Numbers between those named here are kept for calls to come. */

@@ -8,6 +8,10 @@
 extern "C" {
 #endif
 
+/* How many entries a report may have, and how many old receivers take, which refuse more with 10. */
+#define LUMBIXET_ENTRIES 200
+#define LUMBIXET_OLD_ENTRIES 50
+
 /* What became of a media object: an entry's `status`. */
 enum {
     LUMBIXET_RECEIVED = 0,     /* it came whole and in time */
@@ -63,7 +67,7 @@ typedef struct {
 typedef struct {
     uint64_t result; /* 0, 5, 11, 10, 12 or 9 */
     uint64_t next;   /* the length of the report */
-    uint64_t kept;   /* how many of the last records were written, at most 50 */
+    uint64_t kept;   /* how many of the last records were written */
 } lumbixet_written;
 
 /* Reads a whole report: every number in its shortest form (15), and no byte may follow it. Equal reports have equal bytes. */
@@ -75,10 +79,12 @@ lumbixet_entries lumbixet_find_entries(const uint8_t *bytes, size_t length);
 /* Reads entry `index` of the part that lumbixet_find_entries named: pass bytes + start and length. */
 lumbixet_entry lumbixet_read_entry(const uint8_t *entries, size_t length, size_t index);
 
-/* Writes a report at the start of the buffer: header, then the longest run of last records, at most 50, that fits.
- * `records` are 0 to 256 records of 16 bytes: object number (8, high byte first), status, three zeros, age (4). */
+/* Writes a report at the start of the buffer: header, then the longest run of last records, at most `maximum`, that fits.
+ * `records` are 0 to 256 records of 16 bytes: object number (8, high byte first), status, three zeros, age (4).
+ * `maximum` is 0 to 200: LUMBIXET_ENTRIES, or LUMBIXET_OLD_ENTRIES for an old receiver. A larger one is refused with 10,
+ * right after the metric types. More room, or a higher maximum, never drops an entry that was kept with less. */
 lumbixet_written lumbixet_write_report(uint8_t *buffer, size_t length, lumbixet_header header, const uint8_t *records,
-                                       size_t records_length);
+                                       size_t records_length, uint64_t maximum);
 
 #ifdef __cplusplus
 }

@@ -32,7 +32,7 @@ static void reports(void)
         .metrics = 4, .kinds = {0x02, 0x04, 0x10, 0x12}, .values = {51, 52, 53, 54}, .entries = 99,
     };
     uint8_t buffer[sizeof expected];
-    lumbixet_written written = lumbixet_write_report(buffer, sizeof buffer, header, records, 64);
+    lumbixet_written written = lumbixet_write_report(buffer, sizeof buffer, header, records, 64, LUMBIXET_ENTRIES);
     SAME(written.result, LUMBIXET_ACCEPTED);
     SAME(written.next, 83);
     SAME(written.kept, 4);
@@ -59,20 +59,59 @@ static void reports(void)
     SAME(lumbixet_find_entries(expected, sizeof expected - 1).start, 82);
     static const uint8_t long_average[] = {0, 0, 0, 0, 0, 0, 0x40, 0, 0, 0};
     SAME(lumbixet_read_report(long_average, sizeof long_average).result, LUMBIXET_LONGER_FORM);
-    SAME(lumbixet_write_report(buffer, sizeof buffer, header, records, 63).result, LUMBIXET_ENTRY);
+    SAME(lumbixet_write_report(buffer, sizeof buffer, header, records, 63, LUMBIXET_ENTRIES).result, LUMBIXET_ENTRY);
+    SAME(lumbixet_write_report(buffer, sizeof buffer, header, records, 63, LUMBIXET_ENTRIES + 1).result, LUMBIXET_COUNT_OR_TYPE);
     header.metrics = 5;
-    SAME(lumbixet_write_report(buffer, sizeof buffer, header, records, 64).result, LUMBIXET_COUNT_OR_TYPE);
+    SAME(lumbixet_write_report(buffer, sizeof buffer, header, records, 64, LUMBIXET_ENTRIES).result, LUMBIXET_COUNT_OR_TYPE);
     header.lost = 31;
-    SAME(lumbixet_write_report(buffer, sizeof buffer, header, records, 64).result, LUMBIXET_SUM);
+    SAME(lumbixet_write_report(buffer, sizeof buffer, header, records, 64, LUMBIXET_ENTRIES).result, LUMBIXET_SUM);
     static const uint8_t behind[] = {0x80, 0x0f, 0x42, 0x40, 0x80, 0x01, 0x86, 0xa0, 3, 1, 1, 1, 3, 0, 0, 0};
     SAME(lumbixet_read_report(behind, sizeof behind).result, LUMBIXET_BYTES_BEHIND);
     static const uint8_t longer[] = {0, 0, 0, 0, 0, 0, 0, 0, 0x40, 0};
     SAME(lumbixet_read_report(longer, sizeof longer).result, LUMBIXET_LONGER_FORM);
 }
 
+/* A report of so many entries on the wire, all numbers 0, the objects from 0 on: its length. */
+static size_t so_many(uint8_t *bytes, uint64_t entries)
+{
+    memset(bytes, 0, 8);
+    uint64_t start = lumbixet_put_number(bytes, 10, 8, entries).next;
+    memset(bytes + start, 0, 16 * entries);
+    for (uint64_t i = 0; i < entries; i++)
+        bytes[start + 16 * i + 7] = (uint8_t)i;
+    return start + 16 * entries;
+}
+
+/* 63 entries are the last whose count takes one byte, 200 the most; a maximum is at most as large. */
+static void limits(void)
+{
+    static uint8_t bytes[10 + 201 * 16], buffer[sizeof bytes];
+    const lumbixet_header header = {0};
+    static const uint64_t counts[] = {0, 1, 50, 63, 64, 65, 199, 200};
+    for (size_t i = 0; i < sizeof counts / sizeof counts[0]; i++) {
+        uint64_t count = counts[i], length = so_many(bytes, count);
+        SAME(length, 8 + (count < 64 ? 1 : 2) + 16 * count);
+        lumbixet_report report = lumbixet_read_report(bytes, length);
+        SAME(report.result, LUMBIXET_ACCEPTED);
+        SAME(report.header.entries, count);
+        const uint8_t *records = bytes + length - 16 * count;
+        lumbixet_written written = lumbixet_write_report(buffer, length, header, records, 16 * count, LUMBIXET_ENTRIES);
+        SAME(written.next, length);
+        same_bytes("those of a long report", buffer, bytes, length);
+        written = lumbixet_write_report(buffer, sizeof buffer, header, records, 16 * count, LUMBIXET_OLD_ENTRIES);
+        SAME(written.kept, count < LUMBIXET_OLD_ENTRIES ? count : LUMBIXET_OLD_ENTRIES);
+        same_bytes("the last records", buffer + 9, records + 16 * (count - written.kept), 16 * written.kept);
+        SAME(lumbixet_write_report(buffer, sizeof buffer, header, records, 16 * count, 0).next, 9);
+        SAME(lumbixet_write_report(buffer, 0, header, records, 16 * count, UINT64_MAX).result, LUMBIXET_COUNT_OR_TYPE);
+    }
+    SAME(lumbixet_read_report(bytes, so_many(bytes, 201)).result, LUMBIXET_COUNT_OR_TYPE);
+    SAME(lumbixet_write_report(buffer, sizeof buffer, header, bytes + 10, 201 * 16, LUMBIXET_ENTRIES).kept, 200);
+}
+
 int main(void)
 {
     reports();
+    limits();
     if (faults == 0)
         printf("report: %d values of the archive are as include/lumbixet_report.h says\n", seen);
     return faults != 0;

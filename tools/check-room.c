@@ -101,25 +101,26 @@ static void ranges_room(void)
     }
 }
 
-/* Each number of a frame or header takes at most 8 bytes, and the largest does; counts and metric types take one. */
+/* Each number of a frame or header takes at most 8 bytes, and the largest does; metric count and types take one, the entry
+ * count two. */
 static void fixed_rooms(void)
 {
-    static uint8_t buffer[LUMBIXET_REPORT_ROOM], records[50 * 16];
+    static uint8_t buffer[LUMBIXET_REPORT_ROOM], records[LUMBIXET_ENTRIES * 16];
     const uint64_t most = LUMBIXET_LARGEST, third = LUMBIXET_LARGEST / 3;
     HOLDS(LUMBIXET_FREQUENCY_ROOM == 2 + 4 * 8);
     HOLDS(lumbixet_put_frequency(buffer, LUMBIXET_FREQUENCY_ROOM, most, most, most, most).next == LUMBIXET_FREQUENCY_ROOM);
 
-    HOLDS(LUMBIXET_REPORT_ROOM == 7 * 8 + 1 + 4 * (1 + 8) + 1 + 50 * 16);
+    HOLDS(LUMBIXET_REPORT_ROOM == 7 * 8 + 1 + 4 * (1 + 8) + 2 + LUMBIXET_ENTRIES * 16);
     lumbixet_header header = {
         .timestamp = most, .interval = most, .total = 3 * third, .received = third, .late = third, .lost = third,
         .average = INT64_MIN / 4, .metrics = 4,
         .kinds = {LUMBIXET_PLAYOUT_AHEAD_MS, LUMBIXET_ESTIMATED_BANDWIDTH_KBPS, LUMBIXET_PEER_RTT_US, LUMBIXET_PEER_LOSS_RATE},
         .values = {most, most, most, most},
     };
-    for (uint8_t i = 0; i < 50; i++)
+    for (uint8_t i = 0; i < LUMBIXET_ENTRIES; i++)
         records[16 * i + 7] = i;
-    lumbixet_written written = lumbixet_write_report(buffer, sizeof buffer, header, records, sizeof records);
-    HOLDS(written.result == LUMBIXET_ACCEPTED && written.next == LUMBIXET_REPORT_ROOM && written.kept == 50);
+    lumbixet_written written = lumbixet_write_report(buffer, sizeof buffer, header, records, sizeof records, LUMBIXET_ENTRIES);
+    HOLDS(written.result == LUMBIXET_ACCEPTED && written.next == LUMBIXET_REPORT_ROOM && written.kept == LUMBIXET_ENTRIES);
     HOLDS(lumbixet_read_report(buffer, sizeof buffer).result == LUMBIXET_ACCEPTED);
 }
 

@@ -107,6 +107,8 @@ refused_report '80 0f 42 40 80 01' '2: the bytes end inside a field) at byte 4, 
 refused_report '80 0f 42 40 80 01 86 a0 04 01 01 01 03 00 00' '11: the total differs from its parts) at byte 11, lost'
 refused_report "$head 05" '10: a metric count, metric type or entry count breaks its rule) at byte 13, metric count'
 refused_report "$head 01 03 00 00" '10: a metric count, metric type or entry count breaks its rule) at byte 14, metric type'
+refused_report "$head 00 40 c9" '10: a metric count, metric type or entry count breaks its rule) at byte 14, entry count'
+refused_report "$head 00 40 c8" '2: the bytes end inside a field) at byte 16, entry 0'
 refused_report "$head 00 02 $seven 00" '2: the bytes end inside a field) at byte 31, entry 1'
 refused_report "$head 00 02 $eight $seven" '12: an entry breaks its rule) at byte 31, entry 1'
 refused_report "$head 00 02 $seven $seven" '12: an entry breaks its rule) at byte 31, entry 1'

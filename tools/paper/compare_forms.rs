@@ -25,7 +25,7 @@ pub fn round(random: &mut Random, tally: &mut Tally) -> Result<(), String> {
         0 => header.total ^= 1,
         1 => header.metrics = random.between(5, 63),
         2 => (header.metrics, header.kinds[0]) = (header.metrics.max(1), random.one_of(&[0, 3, 0x14, 63])),
-        3 => count = 51,
+        3 => count = 201,
         4 => break_header(random, &mut header),
         _ => {}
     }

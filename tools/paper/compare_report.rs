@@ -6,7 +6,8 @@ use crate::made_up_bytes::{append_in_some_form, damaged};
 use crate::numbers::{append, LARGEST};
 use crate::random::Random;
 use crate::refusals::ACCEPTED;
-use crate::report::{find_entries, read_entry, read_report, write_report, Header, LARGEST_AVERAGE, RECORD, SMALLEST_AVERAGE};
+use crate::report::{find_entries, read_entry, read_report, write_report, Header};
+use crate::report::{LARGEST_AVERAGE, MOST_ENTRIES, RECORD, SMALLEST_AVERAGE};
 use crate::tally::{Call, Lent, Tally};
 use crate::weeks::rising;
 
@@ -100,10 +101,10 @@ fn break_records(random: &mut Random, bytes: &mut Vec<u8>) {
     }
 }
 
-/// Compares the writer; gives the bytes of the buffer that the report takes.
+/// Compares the writer on what is made up; gives the report that was written.
 fn compare_write_report(random: &mut Random, tally: &mut Tally) -> Result<Vec<u8>, String> {
     let mut header = header(random);
-    let count = random.one_of(&[0, 1, 2, 3, 49, 50, 51, 255, 256, 257]);
+    let count = random.one_of(&[0, 1, 2, 3, 50, 51, 63, 64, 65, 199, 200, 201, 255, 256, 257]);
     let mut records = records(random, count);
     while random.chance(300) {
         break_header(random, &mut header);
@@ -111,20 +112,38 @@ fn compare_write_report(random: &mut Random, tally: &mut Tally) -> Result<Vec<u8
     if random.chance(200) {
         break_records(random, &mut records);
     }
-    let lengths = [random.below(30), random.between(20, 120), random.below(1000), 900];
+    let lengths = [random.below(30), random.between(20, 120), random.below(1200), random.below(3400), 3400];
     let length = random.one_of(&lengths) as usize;
+    let maximum = if random.chance(900) { random.one_of(&[0, 1, 50, 63, 64, 199, 200]) } else { maximum(random) };
+    Ok(compare_written(random, tally, (&header, &records), length, maximum)?.1)
+}
+
+/// Any maximum, those around the limit among them.
+pub fn maximum(random: &mut Random) -> u64 {
+    let any = argument(random);
+    random.one_of(&[200, 201, 201, 256, u64::MAX, any])
+}
+
+/// One call of the writer: its answer, and the bytes of the buffer that the report takes.
+pub fn compare_written(
+    random: &mut Random,
+    tally: &mut Tally,
+    (header, records): (&Header, &[u8]),
+    length: usize,
+    maximum: u64,
+) -> Result<(Written, Vec<u8>), String> {
     let mut papers_lent = Lent::new(random, length);
     let mut archive_lent = Lent { memory: papers_lent.memory.clone(), length };
-    let papers = match write_report(papers_lent.buffer(), &header, &records) {
+    let papers = match write_report(papers_lent.buffer(), header, records, maximum) {
         Ok((next, kept)) => Written { result: 0, next: next as u64, kept: kept as u64 },
         Err(result) => Written { result, ..Written::default() },
     };
-    let (start, raw) = (archive_lent.buffer().as_mut_ptr(), raw_header(&header));
-    let archive = unsafe { lumbixet_write_report(start, length, raw, records.as_ptr(), records.len()) };
+    let (start, raw) = (archive_lent.buffer().as_mut_ptr(), raw_header(header));
+    let archive = unsafe { lumbixet_write_report(start, length, raw, records.as_ptr(), records.len(), maximum) };
     let written = papers_lent.buffer()[..papers.next as usize].to_vec();
-    let call = Call { name: "write_report", result: papers.result, given: &(length, header, records) };
+    let call = Call { name: "write_report", result: papers.result, given: &(length, header, records, maximum) };
     tally.compare(call, (papers, papers_lent.memory), (archive, archive_lent.memory))?;
-    Ok(written)
+    Ok((papers, written))
 }
 
 /// The numbers of a report, up to the entry count, as they stand on the wire; what has no form is cut to 62 bits.
@@ -145,7 +164,7 @@ fn report(random: &mut Random) -> Vec<u8> {
     if random.chance(300) {
         break_header(random, &mut header);
     }
-    let count = random.one_of(&[0, 1, 2, 3, 50, 51]);
+    let count = random.one_of(&[0, 1, 2, 3, 50, 51, 63, 64, 200, 201]);
     let in_some_form = random.chance(500);
     let mut bytes = Vec::new();
     for value in numbers_of(&header, count) {
@@ -192,8 +211,9 @@ fn compare_written_again(bytes: &[u8], header: &crate::archive::Header) -> Resul
     let (start, length) = find_entries(bytes);
     let mut again = vec![0; bytes.len()];
     let entries = &bytes[start..start + length];
-    let written = unsafe { lumbixet_write_report(again.as_mut_ptr(), again.len(), *header, entries.as_ptr(), entries.len()) };
-    let papers = read_report(bytes).and_then(|(header, _)| write_report(&mut vec![0; bytes.len()], &header, entries));
+    let (buffer, most) = (again.as_mut_ptr(), MOST_ENTRIES);
+    let written = unsafe { lumbixet_write_report(buffer, again.len(), *header, entries.as_ptr(), entries.len(), most) };
+    let papers = read_report(bytes).and_then(|(header, _)| write_report(&mut vec![0; bytes.len()], &header, entries, most));
     let whole = (bytes.len(), length / RECORD);
     if (written.result, written.next as usize, written.kept as usize) != (ACCEPTED, whole.0, whole.1) || again != bytes {
         return Err(format!("an accepted report is not written again\n  read    {bytes:?}\n  written {again:?}, {written:?}"));

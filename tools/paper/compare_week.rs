@@ -8,7 +8,8 @@ use crate::weeks::{for_cuts, input};
 use std::collections::BTreeMap;
 
 /// Every number of refused reports that a file can bring, the line of a file that ends early, and a full total.
-const WANTED: [&str; 8] = ["refused 2", "refused 10", "refused 11", "refused 12", "refused 13", "refused 20", "2", "full"];
+const WANTED: [&str; 9] =
+    ["refused 2", "refused 10", "refused 11", "refused 12", "refused 13", "refused 15", "refused 20", "2", "full"];
 
 #[derive(Default)]
 struct Seen {

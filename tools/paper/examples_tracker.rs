@@ -243,7 +243,7 @@ fn whole_reports(examples: &mut Examples) {
     let header = tracker.report(3000, 100_000, &mut entries).expect("there is room");
     let mut report = [0; 1000];
     let records = &entries[..RECORD * header.entries as usize];
-    let written = write_report(&mut report, &header, records);
+    let written = write_report(&mut report, &header, records, 200);
     let length = written.map_or(0, |(length, _)| length);
     examples.check("tracker: its entries and summary are written", written.map(|(_, kept)| kept), Ok(21));
     let (sum, parts) = (header.total, (header.received, header.late, header.lost));

@@ -19,6 +19,8 @@ mod compare_forms;
 #[cfg(archive)]
 mod compare_lent;
 #[cfg(archive)]
+mod compare_limits;
+#[cfg(archive)]
 mod compare_receiver;
 mod compare_replay;
 #[cfg(archive)]

@@ -1,13 +1,15 @@
-//! Document 01, "The feedback report", with document 02, No. 5: a header of wire numbers in shortest form, then entries,
-//! records of 16 bytes.
+//! Document 01, "The feedback report", with document 02, No. 5 and 8: a header of wire numbers in shortest form, then up to
+//! 200 entries, records of 16 bytes.
 
-use crate::numbers::{append, high_first, judge_numbers, put_bytes, Fields, LARGEST};
+use crate::numbers::{append, high_first, judge_numbers, put_bytes, width, Fields, LARGEST};
 use crate::refusals::{BYTES_BEHIND, COUNT_OR_TYPE, ENDS, ENTRY, NO_ROOM, SUM, TOO_LARGE};
 
 /// "records of 16 bytes, no header"
 pub const RECORD: usize = 16;
-/// "At most 50 entries."
-const MOST_ENTRIES: usize = 50;
+/// Document 02, No. 8: "The limit becomes 200 for both readers and the writer."
+pub const MOST_ENTRIES: u64 = 200;
+/// "old receivers, which refuse more than 50 with 10"
+pub const MOST_OF_OLD: u64 = 50;
 /// "The writer takes a header and 0 to 256 entry records."
 const MOST_RECORDS: usize = 256;
 /// "At most 4 metrics"
@@ -64,11 +66,17 @@ fn restored(stored: u64) -> i64 {
 
 /// Reads a whole report: the header, and the place where the entries start.
 pub fn read_report(bytes: &[u8]) -> Result<(Header, usize), u64> {
+    read_report_up_to(MOST_ENTRIES, bytes)
+}
+
+/// The same by a reader that accepts so many entries; an old receiver is the one with 50.
+pub fn read_report_up_to(most: u64, bytes: &[u8]) -> Result<(Header, usize), u64> {
     let mut fields = Fields { bytes, at: 0 };
     let mut header = read_summary(&mut fields)?;
     read_metrics(&mut fields, &mut header)?;
     header.entries = fields.report_number()?;
-    if header.entries > MOST_ENTRIES as u64 {
+    // "in a reader 10 above 200 entries"
+    if header.entries > most {
         return Err(COUNT_OR_TYPE);
     }
     // "If too few bytes remain for the entries, 2 comes before any 12; 13 is last."
@@ -171,15 +179,19 @@ pub fn read_entry(entries: &[u8], index: usize) -> Result<Entry, u64> {
 }
 
 /// "The writer takes a header and 0 to 256 entry records." Gives the report's length, and how many records were kept.
-pub fn write_report(buffer: &mut [u8], header: &Header, records: &[u8]) -> Result<(usize, usize), u64> {
+pub fn write_report(buffer: &mut [u8], header: &Header, records: &[u8], maximum: u64) -> Result<(usize, usize), u64> {
     judge_header(header)?;
+    // "in the writer 10 for a maximum above 200, right after the metric types"
+    if maximum > MOST_ENTRIES {
+        return Err(COUNT_OR_TYPE);
+    }
     judge_given_records(records)?;
-    let start = header_bytes(header);
-    // "the smallest permitted output" has no entry; an entry count up to 50 takes one byte
-    let free = buffer.len().checked_sub(start.len() + 1).ok_or(NO_ROOM)?;
-    // "Then it keeps the longest run of last records, at most 50, that fits. Totals stay as given."
-    let kept = (records.len() / RECORD).min(MOST_ENTRIES).min(free / RECORD);
-    let mut bytes = start;
+    let mut bytes = header_bytes(header);
+    // "Then it keeps the longest run of last records, at most" so many, "that fits. Totals stay as given." The count is a wire
+    // number, which takes room of its own; "the smallest permitted output" has no entry.
+    let most = (records.len() / RECORD).min(maximum as usize);
+    let fits = |kept: &usize| bytes.len() + width(*kept as u64) + kept * RECORD <= buffer.len();
+    let kept = (0..=most).rev().find(fits).ok_or(NO_ROOM)?;
     append(&mut bytes, kept as u64);
     bytes.extend_from_slice(&records[records.len() - kept * RECORD..]);
     Ok((put_bytes(buffer, 0, &bytes)?, kept))

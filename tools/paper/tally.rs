@@ -38,7 +38,7 @@ const CAN_GIVE: [(&str, &[u64]); 27] = [
 ];
 
 /// What must have happened in accepted and refused calls beyond their results.
-const MOMENTS: [&str; 68] = [
+const MOMENTS: [&str; 91] = [
     "1 for nothing but a floor above L",
     "1 for nothing but a floor while nothing was received",
     "7 though it was received and lies within 1,024 of L",
@@ -84,6 +84,29 @@ const MOMENTS: [&str; 68] = [
     "15 at the entry count, before 10",
     "2 where a longer form is cut",
     "an accepted frame with a longer field",
+    "a report of 200 entries read",
+    "a report of 201 entries refused with 10",
+    "10 for a maximum of 201",
+    "10 for a maximum of 2^64 - 1",
+    "5 before a maximum above 200",
+    "11 before a maximum above 200",
+    "12 for the records' length, where the maximum is in order",
+    "10 for the maximum, before 12",
+    "10 for the maximum, before 9",
+    "63 entries written",
+    "64 entries written",
+    "65 entries written",
+    "199 entries written",
+    "200 entries written, which is all",
+    "200 entries written of 201",
+    "200 entries written of 256",
+    "no entry written for a maximum of 0",
+    "50 entries written for an old receiver",
+    "an old receiver accepts what was written with maximum 50",
+    "an old receiver refuses what was written with maximum 51",
+    "63 entries where 64 lack the count's second byte",
+    "an entry more, and none dropped",
+    "200 entries in every room, and with every maximum",
     "1 for nothing but the last of the 256",
     "1 for nothing but the interval",
     "1 where no first arrival is named though one arrived",

@@ -2,13 +2,14 @@
 
 use crate::numbers::{append, LARGEST};
 use crate::random::Random;
-use crate::report::{write_report, Header, RECORD};
+use crate::report::{write_report, Header, MOST_ENTRIES, RECORD};
 use crate::traces::Input;
 use crate::week::LONGEST;
 
 /// What a week is made of; each comes in turn.
-const WEEKS: [&str; 12] = [
+const WEEKS: [&str; 13] = [
     "good reports",
+    "long lists of entries",
     "damaged reports",
     "reports of every length",
     "large totals",
@@ -72,15 +73,29 @@ fn header(random: &mut Random, largest: u64) -> Header {
 }
 
 fn written(header: &Header, records: &[u8]) -> Vec<u8> {
-    let mut buffer = [0; 2000];
-    let (length, _) = write_report(&mut buffer, header, records).expect("a header that the writer takes");
+    let mut buffer = [0; 4000];
+    let (length, _) = write_report(&mut buffer, header, records, MOST_ENTRIES).expect("a header that the writer takes");
     buffer[..length].to_vec()
 }
 
 fn report(random: &mut Random, largest: u64) -> Vec<u8> {
-    let count = random.one_of(&[0, 0, 1, 2, 3, 5, 10, 50]);
+    let count = random.one_of(&[0, 0, 1, 2, 3, 5, 10, 50, 51, 64, 200]);
     let records = records(random, count);
     written(&header(random, largest), &records)
+}
+
+/// A report of 51 to 202 entries, at the edges of the count's two lengths and of the limit; one above 200 no writer makes.
+fn long_list(random: &mut Random) -> Vec<u8> {
+    let count = random.one_of(&[51, 63, 64, 65, 199, 200, 201, 202]);
+    let records = records(random, count);
+    if count <= MOST_ENTRIES {
+        return written(&header(random, 5000), &records);
+    }
+    let mut bytes = Vec::new();
+    for number in [1, 2, 0, 0, 0, 0, 0, 0, count] {
+        append(&mut bytes, number);
+    }
+    [bytes, records].concat()
 }
 
 /// One fault, anywhere: a byte changed, the end cut off, bytes behind, the total wrong, an entry's byte wrong.
@@ -123,6 +138,7 @@ fn week(random: &mut Random, name: &str) -> Vec<u8> {
     for _ in 0..random.between(1, 60) {
         match name {
             "damaged reports" | "bytes behind the last" => with_length(&mut bytes, &damaged(random)),
+            "long lists of entries" => with_length(&mut bytes, &long_list(random)),
             "large totals" => with_length(&mut bytes, &report(random, LARGEST)),
             "reports of every length" => {
                 let count = random.below(9000) as usize;

@@ -61,8 +61,14 @@ pub const ACK_ROOM: usize = 1066;
 /// Bytes that hold every ACK_FREQUENCY frame.
 pub const FREQUENCY_ROOM: usize = 34;
 
-/// Bytes that hold every report: four metrics and 50 entries.
-pub const REPORT_ROOM: usize = 894;
+/// Bytes that hold every report: four metrics and 200 entries.
+pub const REPORT_ROOM: usize = 3295;
+
+/// How many entries a report may have.
+pub const ENTRIES: u64 = 200;
+
+/// How many entries old receivers take, which refuse more with [`Refusal::CountOrType`].
+pub const OLD_ENTRIES: u64 = 50;
 
 /// How many numbers [`Ack::read`] needs at most for the ranges of a frame in so many bytes.
 #[must_use]

@@ -239,6 +239,7 @@ extern "C" {
         header: Header,
         records: *const u8,
         records_length: usize,
+        maximum: u64,
     ) -> Written;
     pub fn lumbixet_tracker_open(tracker: *mut Tracker, first: u64, interval_us: u64) -> u64;
     pub fn lumbixet_tracker_arrived(tracker: *mut Tracker, object: u64, time_us: u64, deadline: u64) -> u64;

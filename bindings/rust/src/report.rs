@@ -42,16 +42,26 @@ pub struct Metrics {
 const KINDS: [u64; 4] = [0x02, 0x04, 0x10, 0x12];
 
 impl Header {
-    /// Writes a report at the start of the buffer: the header, then the longest run of last records, at most 50, that
-    /// fits. 0 to 256 records may be given. [`REPORT_ROOM`](crate::REPORT_ROOM) bytes always suffice for 50.
+    /// Writes a report at the start of the buffer: the header, then the longest run of last records, at most
+    /// [`ENTRIES`](crate::ENTRIES), that fits. 0 to 256 records may be given.
+    /// [`REPORT_ROOM`](crate::REPORT_ROOM) bytes always suffice.
     ///
     /// # Errors
     /// [`Refusal::TooLarge`], [`Refusal::Sum`], [`Refusal::CountOrType`] for more than 256 records,
     /// [`Refusal::Entry`], [`Refusal::NoRoom`].
     pub fn write<'a>(&self, buffer: &'a mut [u8], records: &[[u8; 16]]) -> Result<Written<'a>, Refusal> {
+        self.write_at_most(crate::ENTRIES, buffer, records)
+    }
+
+    /// The same with at most so many records: [`OLD_ENTRIES`](crate::OLD_ENTRIES) for an old receiver. More room, or a
+    /// higher maximum, never drops a record that was kept with less.
+    ///
+    /// # Errors
+    /// Those of [`write`](Header::write), and [`Refusal::CountOrType`] for a maximum above [`ENTRIES`](crate::ENTRIES).
+    pub fn write_at_most<'a>(&self, maximum: u64, buffer: &'a mut [u8], records: &[[u8; 16]]) -> Result<Written<'a>, Refusal> {
         let (start, length, header) = (buffer.as_mut_ptr(), buffer.len(), self.to_raw());
         let (first, size) = (records.as_ptr().cast(), 16 * records.len());
-        let written = unsafe { raw::lumbixet_write_report(start, length, header, first, size) };
+        let written = unsafe { raw::lumbixet_write_report(start, length, header, first, size, maximum) };
         accepted(written.result)?;
         Ok(Written { bytes: &buffer[..written.next as usize], kept: written.kept as usize })
     }

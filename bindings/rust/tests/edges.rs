@@ -66,6 +66,8 @@ fn names_are_the_headers() {
         format!("#define LUMBIXET_ACK_ROOM {ACK_ROOM}"),
         format!("#define LUMBIXET_FREQUENCY_ROOM {FREQUENCY_ROOM}"),
         format!("#define LUMBIXET_REPORT_ROOM {REPORT_ROOM}"),
+        format!("#define LUMBIXET_ENTRIES {ENTRIES}\n"),
+        format!("#define LUMBIXET_OLD_ENTRIES {OLD_ENTRIES}\n"),
         format!("#define LUMBIXET_TRACKED {TRACKED}\n"),
         format!("#define LUMBIXET_TRACKER_ROOM {}\n", 16 * TRACKED),
     ] {
@@ -165,4 +167,25 @@ fn a_whole_report() {
     assert_eq!(Report::read(&longer), Err(Refusal::LongerForm));
     let sum = Header { lost: 31, ..header };
     assert_eq!(sum.write(&mut buffer, &[]), Err(Refusal::Sum));
+}
+
+/// From 64 entries on the count takes two bytes; 200 are the most, and for an old receiver 50 are kept, the last ones.
+#[test]
+fn long_reports() {
+    let records: Vec<_> = (0..256).map(|object| Entry { object, status: Status::Received, age: 9 }.record()).collect();
+    let mut buffer = [0; REPORT_ROOM];
+    for (count, length) in [(63, 9 + 63 * 16), (64, 10 + 64 * 16), (200, 10 + 200 * 16), (201, 10 + 200 * 16)] {
+        let written = Header::default().write(&mut buffer, &records[..count]).unwrap();
+        assert_eq!((written.bytes.len(), written.kept), (length, count.min(200)));
+        let entries = Report::read(written.bytes).unwrap().entries;
+        assert_eq!((entries.len(), entries.get(0).unwrap().object), (written.kept, count as u64 - written.kept as u64));
+    }
+    for (maximum, kept) in [(0, 0), (OLD_ENTRIES, 50), (ENTRIES, 200)] {
+        let written = Header::default().write_at_most(maximum, &mut buffer, &records).unwrap();
+        assert_eq!(written.kept, kept);
+        assert!(written.bytes.ends_with(&records[256 - kept..].concat()));
+    }
+    for maximum in [ENTRIES + 1, u64::MAX] {
+        assert_eq!(Header::default().write_at_most(maximum, &mut [], &records), Err(Refusal::CountOrType));
+    }
 }

@@ -167,6 +167,22 @@ impl Room {
     }
 }
 
+/// Seventy objects did not come; the report has at most so many entries.
+fn lost(maximum: u64) -> String {
+    let entry = |object| Entry { object, status: Status::NotReceived, age: 0 };
+    let records: Vec<_> = (100..170).map(|object| entry(object).record()).collect();
+    let times = Header { timestamp: Micros(1_000_000), interval: Micros(100_000), ..Header::default() };
+    let mut buffer = [0; REPORT_ROOM];
+    let came_to = match (Header { total: 70, lost: 70, ..times }).write_at_most(maximum, &mut buffer, &records) {
+        Err(refusal) => refused(refusal),
+        Ok(Written { bytes, kept }) => {
+            let first = Report::read(bytes).expect("what was written is read").entries.get(0).map_or(0, |entry| entry.object);
+            format!(" It takes {} bytes, and has the last {kept}, from object {first} on.\n", bytes.len())
+        }
+    };
+    format!("A report of 70 lost objects with at most {maximum} entries.{came_to}")
+}
+
 fn refused(refusal: Refusal) -> String {
     format!(" Refused with {}: {refusal}.\n", refusal.number())
 }
@@ -235,5 +251,10 @@ fn the_room() {
 
     room.say("\nThe report\n");
     room.report();
+
+    room.say("\nMany small objects are lost, and some receivers are old\n");
+    for maximum in [ENTRIES, OLD_ENTRIES, ENTRIES + 1] {
+        room.say(&lost(maximum));
+    }
     assert_eq!(room.told, include_str!("../../../examples/room.expected"));
 }

@@ -7,9 +7,9 @@ use mathlib.Core.List.{List, [], _∷_}
 use lib.ListN.{length}
 use Rattle.wire.specs.Numbers.{limit}
 use Rattle.wire.specs.Exactly.{OneOf}
-use Rattle.entries.specs.Limits.{recordSize, mostEntries, mostGiven}
+use Rattle.entries.specs.Limits.{recordSize, mostGiven}
 use Rattle.entries.specs.Entries.{objectOf, statusOf, zerosOf, ageOf, recordAt, entryAt, entriesGood, entriesFault}
-use Rattle.entries.specs.Fitting.{sizeOf, fittingOf}
+use Rattle.entries.specs.Fitting.{sizeOf, fittingOf, lastOf}
 use Rattle.entries.specs.Refusals.{entryRefusal}
 use Rattle.entries.specs.declared.Status.{Status}
 use Rattle.entries.specs.declared.Entry.the-variants.{Record}
@@ -80,12 +80,23 @@ FaultJudged = (s : List ℕ) → FaultRows s (entriesFault s)
 
 -- ---- the run of last records that is kept
 
--- k of n records: at most 50, no more than are given, it fits where no record does, and no longer one fits
-pub record Longest (n room k : ℕ) : Type 0 where
-  pub limit : k ≤ mostEntries
+-- k of n records: at most so many, no more than are given, it fits where no record does, and no longer one fits
+pub record Longest (n most room k : ℕ) : Type 0 where
+  pub limit : k ≤ most
   pub given : k ≤ n
   pub fits : sizeOf 0 ≤ room → sizeOf k ≤ room
-  pub longest : (j : ℕ) → j ≤ mostEntries → j ≤ n → sizeOf j ≤ room → j ≤ k
+  pub longest : (j : ℕ) → j ≤ most → j ≤ n → sizeOf j ≤ room → j ≤ k
 
 abbrev pub RecordsFit : Type 0
-RecordsFit = (given room : ℕ) → Longest given room (fittingOf given room)
+RecordsFit = (given most room : ℕ) → Longest given most room (fittingOf given most room)
+
+-- k records were kept and are now m: no fewer, and those kept before are the last of those kept now
+pub record KeptStill (s : List ℕ) (k m : ℕ) : Type 0 where
+  pub more : k ≤ m
+  pub last : lastOf s k ≡ lastOf (lastOf s m) k
+
+-- "more room, or a higher maximum, never drops an entry that was kept with less" (02, No. 8)
+abbrev pub RecordsStay : Type 0
+RecordsStay =
+    (s : List ℕ) (most most' room room' : ℕ) → most ≤ most' → room ≤ room'
+    → KeptStill s (fittingOf (length s / recordSize) most room) (fittingOf (length s / recordSize) most' room')

@@ -5,7 +5,7 @@ use lib.Dec.{leb}
 use lib.ListN.{length, drop}
 use Rattle.wire.specs.Bytes.{pick}
 use Rattle.wire.specs.Numbers.{widthOf}
-use Rattle.entries.specs.Limits.{recordSize, mostEntries}
+use Rattle.entries.specs.Limits.{recordSize}
 
 -- how many bytes k records take with their count, which is a number too
 abbrev pub sizeOf : ℕ → ℕ
@@ -16,9 +16,9 @@ unfoldable pub largestWithin : (ℕ → ℕ) → ℕ → ℕ → ℕ
 largestWithin size room zero = 0
 largestWithin size room (suc k) = pick (leb (size (suc k)) room) (suc k) (largestWithin size room k)
 
--- "the longest run of last records, at most 50, that fits"
-abbrev pub fittingOf : ℕ → ℕ → ℕ
-fittingOf given room = largestWithin sizeOf room (min given mostEntries)
+-- "the longest run of last records" that fits, of those given, and at most so many
+abbrev pub fittingOf : ℕ → ℕ → ℕ → ℕ
+fittingOf given most room = largestWithin sizeOf room (min given most)
 
 -- the last k records
 abbrev pub lastOf : List ℕ → ℕ → List ℕ

@@ -5,9 +5,9 @@ use Prim.Native.Nat.{ℕ}
 abbrev pub recordSize : ℕ
 recordSize = 16
 
--- "At most 50 entries"
+-- "The limit becomes 200 for both readers and the writer" (02, No. 8)
 abbrev pub mostEntries : ℕ
-mostEntries = 50
+mostEntries = 200
 
 -- a writer takes "0 to 256 entry records"
 abbrev pub mostGiven : ℕ

@@ -2,7 +2,6 @@
 ghost use mathlib.Core.Path.{_≡_};
 ghost use Prim.Native.Nat.{min};
 ghost use Rattle.entries.specs.Fitting.{fittingOf};
-use crate::MOST_ENTRIES;
 use crate::RECORD;
 
 // The smaller of the two.
@@ -12,16 +11,17 @@ fn at_most(n: usize, limit: usize) -> usize
     if n <= limit { n } else { limit }
 }
 
-// How many of the given records are kept: the longest run of last ones, at most 50, that fits the room with its count.
-pub fn fitting(given: usize, room: usize) -> usize
-    ensures { λ r. ⌜ r ≡ fittingOf given room ⌝ }
+// How many of the given records are kept: the longest run of last ones, at most so many, that fits the room with its count.
+// A count takes less than a record, so where as many as the room holds do not fit with their count, one fewer do.
+pub fn fitting(given: usize, most: usize, room: usize) -> usize
+    ensures { λ r. ⌜ r ≡ fittingOf given most room ⌝ }
 {
-    let mut k = at_most(given, MOST_ENTRIES);
-    while 0 < k {
-        if wire::width(k as u64) + RECORD * k <= room {
-            return k;
-        }
-        k -= 1;
+    let k = at_most(at_most(given, most), room / RECORD);
+    if k == 0 {
+        return 0;
     }
-    0
+    if wire::width(k as u64) <= room - RECORD * k {
+        return k;
+    }
+    k - 1
 }

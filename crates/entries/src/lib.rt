@@ -17,7 +17,7 @@ pub use row::entries_good;
 pub const RECORD: usize = 16;
 
 // At most so many entries in a report.
-pub const MOST_ENTRIES: usize = 50;
+pub const MOST_ENTRIES: usize = 200;
 
 // At most so many records are handed to a writer.
 const MOST_GIVEN: usize = 256;

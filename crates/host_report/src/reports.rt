@@ -111,15 +111,16 @@ pub extern "C" fn lumbixet_read_entry(entries: &[u8], index: usize) -> EntryOut
     entry_out(answer)
 }
 
-// Writes a report at the start of the buffer.
+// Writes a report of at most so many records at the start of the buffer.
 #[no_mangle]
 pub extern "C" fn lumbixet_write_report(
     buffer: &mut [u8],
     header: Header,
     records: &[u8],
+    maximum: u64,
 ) -> WrittenOut
-    ensures { λ r. ⌜ (r ≡ writtenOut (writeAnswer header (now (records .entry)) (length (now (buffer .entry))))) × (now (buffer .exit) ≡ writeBytes header (now (records .entry)) (now (buffer .entry))) ⌝ }
+    ensures { λ r. ⌜ (r ≡ writtenOut (writeAnswer header (now (records .entry)) maximum (length (now (buffer .entry))))) × (now (buffer .exit) ≡ writeBytes header (now (records .entry)) maximum (now (buffer .entry))) ⌝ }
 {
-    let answer = report::write_report(buffer, header, records);
+    let answer = report::write_report(buffer, header, records, maximum);
     written_out(answer)
 }

@@ -29,7 +29,7 @@ use Rattle.report.specs.declared.Written.the-variants.{Done}
 use Rattle.report.proofs.Places.{metrics-small}
 use Rattle.report.proofs.Sent.{length-pairs, count-last, metrics-there, header-sent}
 use Rattle.report.proofs.Following.{fault-at, fault-last, headed-whole}
-use Rattle.report.proofs.Planning.{Accepted, plan-accepted, kept-given, kept-limit, kept-longest, fits-room, numbers-small, head-size, records-size}
+use Rattle.report.proofs.Planning.{Accepted, plan-accepted, kept-given, kept-maximum, kept-limit, kept-longest, fits-room, numbers-small, head-size, records-size}
 
 -- ---- the header's numbers, and the entry count behind them
 
@@ -61,7 +61,7 @@ module _ (h : Header) (e : firstFault (numbersOf h) ≡ 0) where
 
 -- ---- the report that was written is judged sound
 
-module _ (h : Header) (entries : List ℕ) (room next kept : ℕ) (a : Accepted (numbersOf h) entries room next kept) where
+module _ (h : Header) (entries : List ℕ) (maximum room next kept : ℕ) (a : Accepted (numbersOf h) entries maximum room next kept) where
   abbrev ns : List ℕ
   ns = numbersOf h ++ (kept ∷ [])
 
@@ -98,37 +98,38 @@ module _ (h : Header) (entries : List ℕ) (room next kept : ℕ) (a : Accepted 
 
 -- ---- the lent buffer
 
-module _ (h : Header) (entries xs : List ℕ) (next kept : ℕ) (p : Done next kept ≡ writeAnswer h entries (length xs)) where
-  a : Accepted (numbersOf h) entries (length xs) next kept
-  a = plan-accepted (numbersOf h) entries (length xs) next kept p
+module _ (h : Header) (entries : List ℕ) (maximum : ℕ) (xs : List ℕ) (next kept : ℕ) (p : Done next kept ≡ writeAnswer h entries maximum (length xs)) where
+  a : Accepted (numbersOf h) entries maximum (length xs) next kept
+  a = plan-accepted (numbersOf h) entries maximum (length xs) next kept p
 
-  buffer : writeBytes h entries xs ≡ reportBytes (numbersOf h) entries kept ++ drop (0 + length (reportBytes (numbersOf h) entries kept)) xs
+  buffer : writeBytes h entries maximum xs ≡ reportBytes (numbersOf h) entries kept ++ drop (0 + length (reportBytes (numbersOf h) entries kept)) xs
   unfolding storedAs
   buffer = ap (λ (w : Written). storedAs w (numbersOf h) entries xs) (sym p)
 
   long : length (reportBytes (numbersOf h) entries kept) ≡ next
-  long = written-length h entries (length xs) next kept a
+  long = written-length h entries maximum (length xs) next kept a
 
-  pub report-part : take next (writeBytes h entries xs) ≡ reportBytes (numbersOf h) entries kept
+  pub report-part : take next (writeBytes h entries maximum xs) ≡ reportBytes (numbersOf h) entries kept
   report-part = rw buffer (take-at (reportBytes (numbersOf h) entries kept) (drop (0 + length (reportBytes (numbersOf h) entries kept)) xs) next long)
 
-  behind-part : drop next (writeBytes h entries xs) ≡ drop next xs
+  behind-part : drop next (writeBytes h entries maximum xs) ≡ drop next xs
   behind-part =
       let z : 0 + length (reportBytes (numbersOf h) entries kept) ≡ next = omega (arith, long) in
       rw buffer (drop-at (reportBytes (numbersOf h) entries kept) (drop (0 + length (reportBytes (numbersOf h) entries kept)) xs) next long ∙ ap (λ (n : ℕ). drop n xs) z)
 
-  reads-back : ReadsBack h entries (writeBytes h entries xs) next kept
+  reads-back : ReadsBack h entries (writeBytes h entries maximum xs) next kept
   unfolding reportOf
   reads-back =
-      let j = written-judged h entries (length xs) next kept a in
+      let j = written-judged h entries maximum (length xs) next kept a in
       record {
         header = ap readReport report-part ∙ ap reportOf j ∙ ap (λ (x : Header). record { refusal = 0; header = x }) (header-sent h kept (metrics-few h (a .fault)));
-        records = ap entriesOf report-part ∙ written-entries h entries (length xs) next kept a;
+        records = ap entriesOf report-part ∙ written-entries h entries maximum (length xs) next kept a;
       }
 
-  keeps : Keeps h entries xs next kept
+  keeps : Keeps h entries maximum xs next kept
   keeps = record {
-    limit = kept-limit a;
+    within = a .within;
+    limit = kept-maximum a;
     given = kept-given a;
     size = a .size;
     fits = fits-room a;
@@ -137,7 +138,7 @@ module _ (h : Header) (entries xs : List ℕ) (next kept : ℕ) (p : Done next k
   }
 
 pub write-read : WriteRead
-write-read h entries xs next kept p = reads-back h entries xs next kept p
+write-read h entries maximum xs next kept p = reads-back h entries maximum xs next kept p
 
 pub write-keeps : WriteKeeps
-write-keeps h entries xs next kept p = keeps h entries xs next kept p
+write-keeps h entries maximum xs next kept p = keeps h entries maximum xs next kept p

@@ -1,4 +1,4 @@
--- P9 and P10 of document 01 and the longer forms of No. 5 hold on the definitions: antt computes them.
+-- P9 and P10 of document 01, the longer forms of No. 5 and the limits of No. 8 hold on the definitions: antt computes them.
 -- Assumes nothing.
 use mathlib.Core.Path.{refl}
 use Rattle.wire.specs.Fields.{readFixed}
@@ -8,7 +8,7 @@ use Rattle.entries.specs.Fitting.{largestWithin}
 use Rattle.report.specs.Header.{judgeLater, judge, faultAfter, headerOf, pairs, numbersOf, emptyHeader}
 use Rattle.report.specs.Reader.{numbersFrom, judgeEntries, reportReading, reportOf, entriesIn}
 use Rattle.report.specs.Writer.{planned, storedAs}
-use Rattle.report.specs.Examples.{Examples, LongerForms}
+use Rattle.report.specs.Examples.{Examples, LongerForms, Maxima}
 
 pub examples : Examples
 unfolding firstFrom widthOf form encode encodeAll allSmall readFixed readForm readNumber judgeLater judge faultAfter headerOf pairs numbersOf emptyHeader entryFrom entryOf recordsGood entriesFault numbersFrom judgeEntries reportReading reportOf entriesIn largestWithin planned storedAs
@@ -37,4 +37,18 @@ longer-forms = record {
   last = refl;
   last-before-ten = refl;
   shortest = refl;
+}
+
+pub maxima : Maxima
+unfolding firstFrom widthOf form encode encodeAll allSmall readFixed readForm readNumber judgeLater judge faultAfter pairs numbersOf entryFrom entryOf recordsGood entriesFault numbersFrom judgeEntries reportReading reportOf largestWithin planned storedAs
+maxima = record {
+  none = refl;
+  two = (refl, refl);
+  all = (refl, refl);
+  above = (refl, refl);
+  before-records = (refl, refl);
+  count-read = (refl, refl);
+  second-byte = (refl, (refl, refl));
+  most = (refl, (refl, refl));
+  old = refl;
 }

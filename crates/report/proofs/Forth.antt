@@ -128,7 +128,7 @@ headed s ns at (header h) = h
 antisym : (a b : ℕ) → a ≤ b → b ≤ a → a ≡ b
 antisym a b h l = omega arith
 
-module _ (s ns xs : List ℕ) (at : ℕ) (o : Octets s) (w : Whole ns at ≡ reportReading s) (r : length s ≤ length xs) where
+module _ (s ns xs : List ℕ) (at maximum : ℕ) (o : Octets s) (w : Whole ns at ≡ reportReading s) (allowed : countOf ns ≤ maximum) (within : maximum ≤ mostEntries) (r : length s ≤ length xs) where
   j : Judged s ns at
   j = judged-whole s ns at w
 
@@ -182,23 +182,23 @@ module _ (s ns xs : List ℕ) (at : ℕ) (o : Octets s) (w : Whole ns at ≡ rep
   given : length (entriesOf s) / recordSize ≡ k
   given = omega (arith, entries-long)
 
-  kept-all : fittingOf (length (entriesOf s) / recordSize) (length xs - size) ≡ k
+  kept-all : fittingOf (length (entriesOf s) / recordSize) maximum (length xs - size) ≡ k
   kept-all =
-      let f : ℕ = fittingOf (length (entriesOf s) / recordSize) (length xs - size) in
-      let l = records-fit (length (entriesOf s) / recordSize) (length xs - size) in
-      antisym f k (omega (arith, l .given, given)) (l .longest k k-few (omega (arith, given)) (omega (arith, all-fits)))
+      let n : ℕ = fittingOf (length (entriesOf s) / recordSize) maximum (length xs - size) in
+      let l = records-fit (length (entriesOf s) / recordSize) maximum (length xs - size) in
+      antisym n k (omega (arith, l .given, given)) (l .longest k allowed (omega (arith, given)) (omega (arith, all-fits)))
 
-  answer : Done (length s) k ≡ writeAnswer (headerOf ns) (entriesOf s) (length xs)
+  answer : Done (length s) k ≡ writeAnswer (headerOf ns) (entriesOf s) maximum (length xs)
   answer =
       let p : size < length xs = omega (arith, all-fits, width-pos k (omega (arith, k-few))) in
       let l : size + widthOf k + recordSize * k ≡ length s = omega (arith, all-fits) in
-      rw (← l) (plan-done front (entriesOf s) (length xs) front-small front-good entries-fine size k (widthOf k) refl p (sym kept-all) refl)
+      rw (← l) (plan-done front (entriesOf s) maximum (length xs) front-small front-good within entries-fine size k (widthOf k) refl p (sym kept-all) refl)
 
-  bytes : take (length s) (writeBytes (headerOf ns) (entriesOf s) xs) ≡ s
+  bytes : take (length s) (writeBytes (headerOf ns) (entriesOf s) maximum xs) ≡ s
   bytes =
       let z : length (entriesOf s) - recordSize * k ≡ 0 = omega (arith, entries-long) in
       let e : take (recordSize * k) (drop at s) ≡ drop at s = take-all (recordSize * k) (drop at s) (rw length-drop (omega (arith, j .end))) in
-      report-part (headerOf ns) (entriesOf s) xs (length s) k answer
+      report-part (headerOf ns) (entriesOf s) maximum xs (length s) k answer
       ∙ rw (again, ← t, z, entries-are, e) (take-append-drop at s)
 
 -- ---- by what the reader answers
@@ -215,15 +215,23 @@ module _ (s : List ℕ) (o : Octets s) (e : readReport s .refusal ≡ 0) where
   header-read = ap (λ (r : Reading). reportOf r .header) (sym whole)
 
   -- the writer's answer and bytes are about the header that was read
-  writes-back : (xs : List ℕ) → length s ≤ length xs → WritesBack s xs
+  writes-back : (maximum : ℕ) (xs : List ℕ) → countOf (x .ns) ≤ maximum → maximum ≤ mostEntries → length s ≤ length xs → WritesBack s maximum xs
   unfolding headerOf
-  writes-back xs r = record {
-    answer = subst (λ (h : Header). Done (length s) (h .entries) ≡ writeAnswer h (entriesOf s) (length xs)) (sym header-read) (answer s (x .ns) xs (x .at) o whole r);
-    bytes = subst (λ (h : Header). take (length s) (writeBytes h (entriesOf s) xs) ≡ s) (sym header-read) (bytes s (x .ns) xs (x .at) o whole r);
+  writes-back maximum xs f m r = record {
+    answer = subst (λ (h : Header). Done (length s) (h .entries) ≡ writeAnswer h (entriesOf s) maximum (length xs)) (sym header-read) (answer s (x .ns) xs (x .at) maximum o whole f m r);
+    bytes = subst (λ (h : Header). take (length s) (writeBytes h (entriesOf s) maximum xs) ≡ s) (sym header-read) (bytes s (x .ns) xs (x .at) maximum o whole f m r);
   }
 
+  count-read : readReport s .header .entries ≡ countOf (x .ns)
+  unfolding headerOf
+  count-read = ap (λ (h : Header). h .entries) header-read
+
+  -- what the reader accepts has no more entries than the limit
+  pub entries-few : readReport s .header .entries ≤ mostEntries
+  entries-few = rw count-read (count-few (x .ns) (x .header .good) (x .header .whole))
+
 pub read-write : ReadWrite
-read-write s xs o e r = writes-back s o e xs r
+read-write s maximum xs o e f m r = writes-back s o e maximum xs (rw (count-read s o e) at f) m r
 
 -- both reports are what the writer writes into the same room from the same header and entries
 pub equal-bytes : EqualBytes
@@ -232,11 +240,11 @@ equal-bytes s t o q same = sym (a .bytes) ∙ rw (long, same .headers, same .ent
     xs : List ℕ
     xs = s ++ t
 
-    a : WritesBack s xs
-    a = read-write s xs o (same .accepted .0) (rw length-append (omega arith))
+    a : WritesBack s mostEntries xs
+    a = read-write s mostEntries xs o (same .accepted .0) (entries-few s o (same .accepted .0)) (omega arith) (rw length-append (omega arith))
 
-    b : WritesBack t xs
-    b = read-write t xs q (same .accepted .1) (rw length-append (omega arith))
+    b : WritesBack t mostEntries xs
+    b = read-write t mostEntries xs q (same .accepted .1) (entries-few t q (same .accepted .1)) (omega arith) (rw length-append (omega arith))
 
     same-answer : Done (length s) (readReport s .header .entries) ≡ Done (length t) (readReport t .header .entries)
     same-answer = a .answer ∙ rw (same .headers, same .entries) (sym (b .answer))

@@ -12,4 +12,5 @@ pub mod Back
 pub mod Forth
 pub mod Metrics
 pub mod Refusing
+pub mod Maximum
 pub mod Agreeing

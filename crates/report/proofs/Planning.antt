@@ -27,38 +27,43 @@ use Rattle.report.specs.declared.Written.the-variants.{Done, Refused}
 
 -- ---- each judgement in its turn
 
-module _ (ns entries : List ℕ) (room : ℕ) where
-  pub plan-large : allSmall ns ≡ false → Refused 5 ≡ planned ns entries room
+module _ (ns entries : List ℕ) (maximum room : ℕ) where
+  pub plan-large : allSmall ns ≡ false → Refused 5 ≡ planned ns entries maximum room
   unfolding planned
   plan-large e = rw e
 
   module _ (s : allSmall ns ≡ true) where
-    pub plan-fault : (r : ℕ) → r ≡ firstFault ns → (r ≡ 0 → ⊥) → Refused r ≡ planned ns entries room
+    pub plan-fault : (r : ℕ) → r ≡ firstFault ns → (r ≡ 0 → ⊥) → Refused r ≡ planned ns entries maximum room
     unfolding planned
     plan-fault r e n = rw (s, ← e, ne-eqb r 0 n)
 
     module _ (z : firstFault ns ≡ 0) where
-      pub plan-broken : (r : ℕ) → r ≡ entriesFault entries → (r ≡ 0 → ⊥) → Refused r ≡ planned ns entries room
+      pub plan-above : mostEntries < maximum → Refused 10 ≡ planned ns entries maximum room
       unfolding planned
-      plan-broken r e n = rw (s, z, ← e, ne-eqb r 0 n)
+      plan-above h = rw (s, z, lt-leb maximum mostEntries h)
 
-      module _ (y : entriesFault entries ≡ 0) where
-        pub plan-room : room ≤ length (encodeAll ns) → Refused 9 ≡ planned ns entries room
+      module _ (m : maximum ≤ mostEntries) where
+        pub plan-broken : (r : ℕ) → r ≡ entriesFault entries → (r ≡ 0 → ⊥) → Refused r ≡ planned ns entries maximum room
         unfolding planned
-        plan-room h = rw (s, z, y, lt-leb (reportSize (length (encodeAll ns)) 0) room (omega (arith, size-none)))
+        plan-broken r e n = rw (s, z, le-leb maximum mostEntries m, ← e, ne-eqb r 0 n)
 
-        pub plan-done : (head k w : ℕ) → head ≡ length (encodeAll ns) → head < room → k ≡ fittingOf (length entries / recordSize) (room - head) → w ≡ widthOf k
-            → Done (head + w + recordSize * k) k ≡ planned ns entries room
-        unfolding planned
-        plan-done head k w e h f g =
-            let l : reportSize head 0 ≤ room = omega (arith, size-none) in
-            let n : head + w + recordSize * k ≡ reportSize head k = omega arith in
-            rw (n, s, z, y, ← e, ← f, le-leb (reportSize head 0) room l)
+        module _ (y : entriesFault entries ≡ 0) where
+          pub plan-room : room ≤ length (encodeAll ns) → Refused 9 ≡ planned ns entries maximum room
+          unfolding planned
+          plan-room h = rw (s, z, le-leb maximum mostEntries m, y, lt-leb (reportSize (length (encodeAll ns)) 0) room (omega (arith, size-none)))
+
+          pub plan-done : (head k w : ℕ) → head ≡ length (encodeAll ns) → head < room → k ≡ fittingOf (length entries / recordSize) maximum (room - head) → w ≡ widthOf k
+              → Done (head + w + recordSize * k) k ≡ planned ns entries maximum room
+          unfolding planned
+          plan-done head k w e h f g =
+              let l : reportSize head 0 ≤ room = omega (arith, size-none) in
+              let n : head + w + recordSize * k ≡ reportSize head k = omega arith in
+              rw (n, s, z, le-leb maximum mostEntries m, y, ← e, ← f, le-leb (reportSize head 0) room l)
 
 -- the code's sum stays within the room
-pub plan-fits : (head room n k w : ℕ) → head < room → k ≡ fittingOf n (room - head) → w ≡ widthOf k → head + w + recordSize * k ≤ room
-plan-fits head room n k w h f g =
-    let q : sizeOf k ≤ room - head = rw f (records-fit n (room - head) .fits (omega (arith, size-none))) in
+pub plan-fits : (head room n most k w : ℕ) → head < room → k ≡ fittingOf n most (room - head) → w ≡ widthOf k → head + w + recordSize * k ≤ room
+plan-fits head room n most k w h f g =
+    let q : sizeOf k ≤ room - head = rw f (records-fit n most (room - head) .fits (omega (arith, size-none))) in
     omega arith
 
 -- ---- what an accepted plan says
@@ -68,52 +73,58 @@ pub length-last : (vs : List ℕ) (v : ℕ) → v ≤ limit → length (encodeAl
 unfolding encodeAll
 length-last vs v h = rw (encode-append, append-nil, length-append, length-encode v h)
 
-pub record Accepted (ns entries : List ℕ) (room next kept : ℕ) : Type 0 where
+pub record Accepted (ns entries : List ℕ) (maximum room next kept : ℕ) : Type 0 where
   pub small : allSmall ns ≡ true
   pub fault : firstFault ns ≡ 0
+  pub within : maximum ≤ mostEntries
   pub good : entriesFault entries ≡ 0
   pub least : reportSize (length (encodeAll ns)) 0 ≤ room
-  pub many : kept ≡ keptOf ns entries room
+  pub many : kept ≡ keptOf ns entries maximum room
   pub size : next ≡ reportSize (length (encodeAll ns)) kept
 
-pub plan-accepted : (ns entries : List ℕ) (room next kept : ℕ) → Done next kept ≡ planned ns entries room → Accepted ns entries room next kept
+pub plan-accepted : (ns entries : List ℕ) (maximum room next kept : ℕ) → Done next kept ≡ planned ns entries maximum room → Accepted ns entries maximum room next kept
 unfolding planned
-plan-accepted ns entries room next kept e =
-    go (allSmall ns) (eqb (firstFault ns) 0) (eqb (entriesFault entries) 0) (leb (reportSize (length (encodeAll ns)) 0) room) refl refl refl refl e
+plan-accepted ns entries maximum room next kept e =
+    go (allSmall ns) (eqb (firstFault ns) 0) (leb maximum mostEntries) (eqb (entriesFault entries) 0) (leb (reportSize (length (encodeAll ns)) 0) room) refl refl refl refl refl e
   where
     k : ℕ
-    k = keptOf ns entries room
+    k = keptOf ns entries maximum room
 
-    go : (a b c d : Bool) → allSmall ns ≡ a → eqb (firstFault ns) 0 ≡ b → eqb (entriesFault entries) 0 ≡ c → leb (reportSize (length (encodeAll ns)) 0) room ≡ d
-        → Done next kept ≡ pick a (pick b (pick c (pick d (Done (reportSize (length (encodeAll ns)) k) k) (Refused 9)) (Refused (entriesFault entries))) (Refused (firstFault ns))) (Refused 5)
-        → Accepted ns entries room next kept
-    go true true true true p q r t e =
+    go : (a b m c d : Bool) → allSmall ns ≡ a → eqb (firstFault ns) 0 ≡ b → leb maximum mostEntries ≡ m → eqb (entriesFault entries) 0 ≡ c → leb (reportSize (length (encodeAll ns)) 0) room ≡ d
+        → Done next kept ≡ pick a (pick b (pick m (pick c (pick d (Done (reportSize (length (encodeAll ns)) k) k) (Refused 9)) (Refused (entriesFault entries))) (Refused 10)) (Refused (firstFault ns))) (Refused 5)
+        → Accepted ns entries maximum room next kept
+    go true true true true true p q u r t e =
         let m : kept ≡ k = cc in
         let n : next ≡ reportSize (length (encodeAll ns)) k = cc in
         record {
           small = p;
           fault = eqb-true (firstFault ns) 0 q;
+          within = leb-true maximum mostEntries u;
           good = eqb-true (entriesFault entries) 0 r;
           least = leb-true (reportSize (length (encodeAll ns)) 0) room t;
           many = m;
           size = n ∙ ap (reportSize (length (encodeAll ns))) (sym m);
         }
-    go true true true false p q r t e = let z : _≡_ {A = ℕ} 0 1 = cc in absurd (omega arith)
-    go true true false d p q r t e = let z : _≡_ {A = ℕ} 0 1 = cc in absurd (omega arith)
-    go true false c d p q r t e = let z : _≡_ {A = ℕ} 0 1 = cc in absurd (omega arith)
-    go false b c d p q r t e = let z : _≡_ {A = ℕ} 0 1 = cc in absurd (omega arith)
+    go true true true true false p q u r t e = let z : _≡_ {A = ℕ} 0 1 = cc in absurd (omega arith)
+    go true true true false d p q u r t e = let z : _≡_ {A = ℕ} 0 1 = cc in absurd (omega arith)
+    go true true false c d p q u r t e = let z : _≡_ {A = ℕ} 0 1 = cc in absurd (omega arith)
+    go true false m c d p q u r t e = let z : _≡_ {A = ℕ} 0 1 = cc in absurd (omega arith)
+    go false b m c d p q u r t e = let z : _≡_ {A = ℕ} 0 1 = cc in absurd (omega arith)
 
-module _ {ns entries : List ℕ} {room next kept : ℕ} (a : Accepted ns entries room next kept) where
-  run : Longest (length entries / recordSize) (room - length (encodeAll ns)) kept
-  run = rw (a .many) (records-fit (length entries / recordSize) (room - length (encodeAll ns)))
+module _ {ns entries : List ℕ} {maximum room next kept : ℕ} (a : Accepted ns entries maximum room next kept) where
+  run : Longest (length entries / recordSize) maximum (room - length (encodeAll ns)) kept
+  run = rw (a .many) (records-fit (length entries / recordSize) maximum (room - length (encodeAll ns)))
 
   pub kept-given : recordSize * kept ≤ length entries
   kept-given = omega (arith, run .given)
 
-  pub kept-limit : kept ≤ mostEntries
-  kept-limit = run .limit
+  pub kept-maximum : kept ≤ maximum
+  kept-maximum = run .limit
 
-  pub kept-longest : (k : ℕ) → k ≤ mostEntries → recordSize * k ≤ length entries → reportSize (length (encodeAll ns)) k ≤ room → k ≤ kept
+  pub kept-limit : kept ≤ mostEntries
+  kept-limit = omega (arith, run .limit, a .within)
+
+  pub kept-longest : (k : ℕ) → k ≤ maximum → recordSize * k ≤ length entries → reportSize (length (encodeAll ns)) k ≤ room → k ≤ kept
   kept-longest k m g f = run .longest k m (omega arith) (omega arith)
 
   pub fits-room : next ≤ room
@@ -138,18 +149,18 @@ last-part entries k h = take-all (length entries - k + k - (length entries - k))
 
 -- ---- the answer and the buffer
 
-module _ (h : Header) (entries xs : List ℕ) (a : Written) (e : a ≡ writeAnswer h entries (length xs)) where
-  pub write-refused : (n : ℕ) → a ≡ Refused n → (a ≡ writeAnswer h entries (length xs)) × (xs ≡ writeBytes h entries xs)
+module _ (h : Header) (entries : List ℕ) (maximum : ℕ) (xs : List ℕ) (a : Written) (e : a ≡ writeAnswer h entries maximum (length xs)) where
+  pub write-refused : (n : ℕ) → a ≡ Refused n → (a ≡ writeAnswer h entries maximum (length xs)) × (xs ≡ writeBytes h entries maximum xs)
   unfolding storedAs
   write-refused n t = (e, ap (λ (w : Written). storedAs w (numbersOf h) entries xs) (sym t ∙ e))
 
   pub write-done : (next kept : ℕ) (ys : List ℕ) → a ≡ Done next kept → ys ≡ splice xs 0 (reportBytes (numbersOf h) entries kept)
-      → (Done next kept ≡ writeAnswer h entries (length xs)) × (ys ≡ writeBytes h entries xs)
+      → (Done next kept ≡ writeAnswer h entries maximum (length xs)) × (ys ≡ writeBytes h entries maximum xs)
   unfolding storedAs
   write-done next kept ys t d = (sym t ∙ e, d ∙ ap (λ (w : Written). storedAs w (numbersOf h) entries xs) (sym t ∙ e))
 
 -- what storing an accepted plan needs, and what it gives: n numbers of the array are the header's
-module _ (ns entries xs numbers : List ℕ) (n next kept : ℕ) (a : Accepted ns entries (length xs) next kept) (h : n < length numbers) (t : take n numbers ≡ ns) where
+module _ (ns entries xs numbers : List ℕ) (maximum n next kept : ℕ) (a : Accepted ns entries maximum (length xs) next kept) (h : n < length numbers) (t : take n numbers ≡ ns) where
   pub ready : (allSmall (take (n + 1) (set numbers n kept)) ≡ true) × ((next - recordSize * kept ≡ length (encodeAll (take (n + 1) (set numbers n kept))))
       × (next - recordSize * kept + length (take (length entries - recordSize * kept + recordSize * kept - (length entries - recordSize * kept)) (drop (length entries - recordSize * kept) entries)) ≤ length xs))
   ready =

@@ -38,28 +38,33 @@ pub record ReadsBack (h : Header) (entries written : List ℕ) (next kept : ℕ)
   pub records : entriesOf (take next written) ≡ lastOf entries kept
 
 abbrev pub WriteRead : Type 0
-WriteRead = (h : Header) (entries xs : List ℕ) (next kept : ℕ) → Done next kept ≡ writeAnswer h entries (length xs) → ReadsBack h entries (writeBytes h entries xs) next kept
+WriteRead =
+    (h : Header) (entries : List ℕ) (maximum : ℕ) (xs : List ℕ) (next kept : ℕ) → Done next kept ≡ writeAnswer h entries maximum (length xs)
+    → ReadsBack h entries (writeBytes h entries maximum xs) next kept
 
--- the run of last records that is kept: at most 50, no more than are given, it fits, and no longer one does; bytes behind the report stay
-pub record Keeps (h : Header) (entries xs : List ℕ) (next kept : ℕ) : Type 0 where
-  pub limit : kept ≤ mostEntries
+-- the run of last records that is kept: at most the maximum, no more than are given, it fits, and no longer one does; bytes behind the report stay
+pub record Keeps (h : Header) (entries : List ℕ) (maximum : ℕ) (xs : List ℕ) (next kept : ℕ) : Type 0 where
+  pub within : maximum ≤ mostEntries
+  pub limit : kept ≤ maximum
   pub given : recordSize * kept ≤ length entries
   pub size : next ≡ reportSize (length (encodeAll (numbersOf h))) kept
   pub fits : next ≤ length xs
-  pub longest : (k : ℕ) → k ≤ mostEntries → recordSize * k ≤ length entries → reportSize (length (encodeAll (numbersOf h))) k ≤ length xs → k ≤ kept
-  pub stay : drop next (writeBytes h entries xs) ≡ drop next xs
+  pub longest : (k : ℕ) → k ≤ maximum → recordSize * k ≤ length entries → reportSize (length (encodeAll (numbersOf h))) k ≤ length xs → k ≤ kept
+  pub stay : drop next (writeBytes h entries maximum xs) ≡ drop next xs
 
 abbrev pub WriteKeeps : Type 0
-WriteKeeps = (h : Header) (entries xs : List ℕ) (next kept : ℕ) → Done next kept ≡ writeAnswer h entries (length xs) → Keeps h entries xs next kept
+WriteKeeps = (h : Header) (entries : List ℕ) (maximum : ℕ) (xs : List ℕ) (next kept : ℕ) → Done next kept ≡ writeAnswer h entries maximum (length xs) → Keeps h entries maximum xs next kept
 
 -- an accepted report, written from its header and its entries into a room that holds it
-pub record WritesBack (s xs : List ℕ) : Type 0 where
-  pub answer : Done (length s) (readReport s .header .entries) ≡ writeAnswer (readReport s .header) (entriesOf s) (length xs)
-  pub bytes : take (length s) (writeBytes (readReport s .header) (entriesOf s) xs) ≡ s
+pub record WritesBack (s : List ℕ) (maximum : ℕ) (xs : List ℕ) : Type 0 where
+  pub answer : Done (length s) (readReport s .header .entries) ≡ writeAnswer (readReport s .header) (entriesOf s) maximum (length xs)
+  pub bytes : take (length s) (writeBytes (readReport s .header) (entriesOf s) maximum xs) ≡ s
 
--- what the reader accepts, of bytes, is what the writer writes
+-- what the reader accepts, of bytes, is what the writer writes with a maximum that allows its entries
 abbrev pub ReadWrite : Type 0
-ReadWrite = (s xs : List ℕ) → Octets s → readReport s .refusal ≡ 0 → length s ≤ length xs → WritesBack s xs
+ReadWrite =
+    (s : List ℕ) (maximum : ℕ) (xs : List ℕ) → Octets s → readReport s .refusal ≡ 0 → readReport s .header .entries ≤ maximum → maximum ≤ mostEntries
+    → length s ≤ length xs → WritesBack s maximum xs
 
 -- "From then on equal reports have equal bytes" (02, No. 5): equal headers and equal entries
 pub record SameReport (s t : List ℕ) : Type 0 where

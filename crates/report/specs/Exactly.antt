@@ -159,9 +159,14 @@ pub record HeaderPasses (h : Header) : Type 0 where
   pub sum : SumHolds h
   pub metrics : MetricsObey h
 
--- and so do the records
-pub record Passes (h : Header) (entries : List ℕ) : Type 0 where
+-- and so does the maximum, "from 0 to 200" (02, No. 8)
+pub record MaximumPasses (h : Header) (maximum : ℕ) : Type 0 where
   pub header : HeaderPasses h
+  pub within : maximum ≤ mostEntries
+
+-- and so do the records
+pub record Passes (h : Header) (entries : List ℕ) (maximum : ℕ) : Type 0 where
+  pub front : MaximumPasses h maximum
   pub records : RecordsPass entries
 
 -- 10: the metrics break their rule
@@ -170,18 +175,25 @@ pub record MetricsBroken (h : Header) : Type 0 where
   pub sum : SumHolds h
   pub broken : MetricsObey h → ⊥
 
-pub record WriterRows (h : Header) (entries : List ℕ) (room refusal : ℕ) : Type 0 where
+-- 10: the header passes, and the maximum is above the limit
+pub record MaximumBroken (h : Header) (maximum : ℕ) : Type 0 where
+  pub header : HeaderPasses h
+  pub above : mostEntries < maximum
+
+pub record WriterRows (h : Header) (entries : List ℕ) (maximum room refusal : ℕ) : Type 0 where
   pub five : refusal ≡ 5 ↔ (Small (numbersOf h) → ⊥)
   pub eleven : refusal ≡ 11 ↔ (Small (numbersOf h) × (SumHolds h → ⊥))
-  pub ten : refusal ≡ 10 ↔ (MetricsBroken h ⊎ (HeaderPasses h × TooMany entries))
-  pub twelve : refusal ≡ 12 ↔ (HeaderPasses h × (Ragged entries ⊎ BadRecord entries))
-  pub nine : refusal ≡ 9 ↔ (Passes h entries × (room < reportSize (length (encodeAll (numbersOf h))) 0))
-  pub accepted : refusal ≡ 0 ↔ (Passes h entries × (reportSize (length (encodeAll (numbersOf h))) 0 ≤ room))
+  pub ten : refusal ≡ 10 ↔ (MetricsBroken h ⊎ (MaximumBroken h maximum ⊎ (MaximumPasses h maximum × TooMany entries)))
+  pub twelve : refusal ≡ 12 ↔ (MaximumPasses h maximum × (Ragged entries ⊎ BadRecord entries))
+  pub nine : refusal ≡ 9 ↔ (Passes h entries maximum × (room < reportSize (length (encodeAll (numbersOf h))) 0))
+  pub accepted : refusal ≡ 0 ↔ (Passes h entries maximum × (reportSize (length (encodeAll (numbersOf h))) 0 ≤ room))
   pub others : OneOf refusal (0 ∷ 5 ∷ 9 ∷ 10 ∷ 11 ∷ 12 ∷ [])
 
 abbrev pub ReportWrites : Type 0
-ReportWrites = (h : Header) (entries : List ℕ) (room : ℕ) → WriterRows h entries room (writtenRefusal (writeAnswer h entries room))
+ReportWrites = (h : Header) (entries : List ℕ) (maximum room : ℕ) → WriterRows h entries maximum room (writtenRefusal (writeAnswer h entries maximum room))
 
 -- a refused write leaves every element as it was
 abbrev pub ReportUnchanged : Type 0
-ReportUnchanged = (h : Header) (entries xs : List ℕ) → (writtenRefusal (writeAnswer h entries (length xs)) ≡ 0 → ⊥) → writeBytes h entries xs ≡ xs
+ReportUnchanged =
+    (h : Header) (entries : List ℕ) (maximum : ℕ) (xs : List ℕ) → (writtenRefusal (writeAnswer h entries maximum (length xs)) ≡ 0 → ⊥)
+    → writeBytes h entries maximum xs ≡ xs

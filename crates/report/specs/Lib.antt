@@ -7,4 +7,5 @@ pub mod Writer
 pub mod Refusals
 pub mod Exactly
 pub mod EachWay
+pub mod Maximum
 pub mod Examples

@@ -5,7 +5,7 @@ use lib.Dec.{eqb, leb}
 use lib.ListN.{length}
 use Rattle.wire.specs.Bytes.{pick, splice}
 use Rattle.wire.specs.Numbers.{encodeAll, allSmall}
-use Rattle.entries.specs.Limits.{recordSize}
+use Rattle.entries.specs.Limits.{recordSize, mostEntries}
 use Rattle.entries.specs.Entries.{entriesFault}
 use Rattle.entries.specs.Fitting.{sizeOf, fittingOf, lastOf}
 use Rattle.report.specs.Header.{firstFault, numbersOf}
@@ -17,29 +17,32 @@ use Rattle.report.specs.declared.Written.the-variants.{Done, Refused}
 abbrev pub reportSize : ℕ → ℕ → ℕ
 reportSize head k = head + sizeOf k
 
--- "the longest run of last records, at most 50, that fits"
-abbrev pub keptOf : List ℕ → List ℕ → ℕ → ℕ
-keptOf ns entries room = fittingOf (length entries / recordSize) (room - length (encodeAll ns))
+-- "the longest run of last records" that fits, at most the maximum
+abbrev pub keptOf : List ℕ → List ℕ → ℕ → ℕ → ℕ
+keptOf ns entries maximum room = fittingOf (length entries / recordSize) maximum (room - length (encodeAll ns))
 
 -- "room (9)": the report with no record is the smallest
-abbrev pub fitted : List ℕ → List ℕ → ℕ → Written
-fitted ns entries room =
+abbrev pub fitted : List ℕ → List ℕ → ℕ → ℕ → Written
+fitted ns entries maximum room =
     pick (leb (reportSize (length (encodeAll ns)) 0) room)
-    (Done (reportSize (length (encodeAll ns)) (keptOf ns entries room)) (keptOf ns entries room))
+    (Done (reportSize (length (encodeAll ns)) (keptOf ns entries maximum room)) (keptOf ns entries maximum room))
     (Refused 9)
 
--- "numbers (5 ..), the sum (11), metric count and types (10), an entry length .. (12), .. (10), each record (12), room (9)"
-unfoldable pub planned : List ℕ → List ℕ → ℕ → Written
-planned ns entries room =
+-- "numbers (5 ..), the sum (11), metric count and types (10), an entry length .. (12), .. (10), each record (12), room (9)";
+-- "10 for a maximum above 200, right after the metric types" (02, No. 8)
+unfoldable pub planned : List ℕ → List ℕ → ℕ → ℕ → Written
+planned ns entries maximum room =
     pick (allSmall ns)
     (pick (eqb (firstFault ns) 0)
-    (pick (eqb (entriesFault entries) 0) (fitted ns entries room)
+    (pick (leb maximum mostEntries)
+    (pick (eqb (entriesFault entries) 0) (fitted ns entries maximum room)
     (Refused (entriesFault entries)))
+    (Refused 10))
     (Refused (firstFault ns)))
     (Refused 5)
 
-abbrev pub writeAnswer : Header → List ℕ → ℕ → Written
-writeAnswer h entries room = planned (numbersOf h) entries room
+abbrev pub writeAnswer : Header → List ℕ → ℕ → ℕ → Written
+writeAnswer h entries maximum room = planned (numbersOf h) entries maximum room
 
 -- the report: the numbers, the number kept, and that many last records
 abbrev pub reportBytes : List ℕ → List ℕ → ℕ → List ℕ
@@ -50,5 +53,5 @@ unfoldable pub storedAs : Written → List ℕ → List ℕ → List ℕ → Lis
 storedAs (Done next kept) ns entries xs = splice xs 0 (reportBytes ns entries kept)
 storedAs (Refused n) ns entries xs = xs
 
-abbrev pub writeBytes : Header → List ℕ → List ℕ → List ℕ
-writeBytes h entries xs = storedAs (writeAnswer h entries (length xs)) (numbersOf h) entries xs
+abbrev pub writeBytes : Header → List ℕ → ℕ → List ℕ → List ℕ
+writeBytes h entries maximum xs = storedAs (writeAnswer h entries maximum (length xs)) (numbersOf h) entries xs

@@ -13,13 +13,14 @@ use crate::headers::numbers_of;
 use crate::judging::first_fault;
 use crate::judging::looked_at;
 use crate::layout::FIXED;
+use entries::MOST_ENTRIES;
 use entries::RECORD;
 use entries::entries_fault;
 use entries::fitting;
 
 // What the writer answers: it judges in the paper's order, then fits the records to the room.
-fn plan(numbers: &[u64], entries: &[u8], room: usize) -> Written
-    ensures { λ r. ⌜ r ≡ planned (now (numbers .entry)) (now (entries .entry)) room ⌝ }
+fn plan(numbers: &[u64], entries: &[u8], maximum: u64, room: usize) -> Written
+    ensures { λ r. ⌜ r ≡ planned (now (numbers .entry)) (now (entries .entry)) maximum room ⌝ }
 {
     let wire::Length::Bytes(head) = wire::length_of(numbers) else {
         return Written::Refused(5);
@@ -28,6 +29,9 @@ fn plan(numbers: &[u64], entries: &[u8], room: usize) -> Written
     if fault != 0 {
         return Written::Refused(fault);
     }
+    if (MOST_ENTRIES as u64) < maximum {
+        return Written::Refused(10);
+    }
     let broken = entries_fault(entries);
     if broken != 0 {
         return Written::Refused(broken);
@@ -35,7 +39,7 @@ fn plan(numbers: &[u64], entries: &[u8], room: usize) -> Written
     if room <= head {
         return Written::Refused(9);
     }
-    let kept = fitting(entries.len() / RECORD, room - head);
+    let kept = fitting(entries.len() / RECORD, maximum as usize, room - head);
     Written::Done {
         next: head + wire::width(kept as u64) + RECORD * kept,
         kept,
@@ -64,14 +68,14 @@ fn store(buf: &mut [u8], at: usize, numbers: &[u64], records: &[u8])
     copy(&mut buf[at..end], records);
 }
 
-// Writes a report of the header and the last of the records that fit; nothing on a refusal.
-pub fn write_report(buf: &mut [u8], header: Header, entries: &[u8]) -> Written
-    ensures { λ r. ⌜ (r ≡ writeAnswer header (now (entries .entry)) (length (now (buf .entry)))) × (now (buf .exit) ≡ writeBytes header (now (entries .entry)) (now (buf .entry))) ⌝ }
+// Writes a report of the header and the last of the records that fit, at most the maximum; nothing on a refusal.
+pub fn write_report(buf: &mut [u8], header: Header, entries: &[u8], maximum: u64) -> Written
+    ensures { λ r. ⌜ (r ≡ writeAnswer header (now (entries .entry)) maximum (length (now (buf .entry)))) × (now (buf .exit) ≡ writeBytes header (now (entries .entry)) maximum (now (buf .entry))) ⌝ }
 {
     let metrics = header.metrics;
     let count = FIXED + 2 * looked_at(metrics);
     let mut numbers = numbers_of(header);
-    let answer = plan(&numbers[..count], entries, buf.len());
+    let answer = plan(&numbers[..count], entries, maximum, buf.len());
     let Written::Done { next, kept } = answer else {
         return answer;
     };

@@ -15,7 +15,7 @@ use Rattle.wire.specs.Numbers.{limit, encodeAll, allSmall}
 use Rattle.wire.specs.Exactly.{Small}
 use Rattle.wire.proofs.Bytes.{be-digits}
 use Rattle.wire.proofs.Lengths.{split}
-use Rattle.entries.specs.Limits.{recordSize}
+use Rattle.entries.specs.Limits.{recordSize, mostEntries}
 use Rattle.entries.specs.Entries.{entryFrom, entryOf, follows, recordsGood, entriesFault}
 use Rattle.entries.specs.Exactly.{RecordsPass}
 use Rattle.entries.proofs.Exactly.{entries-judged}
@@ -132,36 +132,45 @@ unfolding summaryOf
 no-metrics r time interval = record { few = omega arith; known = λ i h. absurd (omega arith); rising = λ i h. absurd (omega arith) }
 
 pub writer-takes : WriterTakes
-writer-takes r time interval room e =
+writer-takes r time interval room maximum e m =
     let ok = exactly .report r time interval room .accepted .0 e in
     record {
-      header = record { small = header-small r time interval (ok .1 .0 .0) (ok .1 .0 .1) (ok .1 .1 .0); sum = total-is-parts r time interval; metrics = no-metrics r time interval };
+      front = record {
+        header = record { small = header-small r time interval (ok .1 .0 .0) (ok .1 .0 .1) (ok .1 .1 .0); sum = total-is-parts r time interval; metrics = no-metrics r time interval };
+        within = m;
+      };
       records = records-pass r time (ok .0 .last);
     }
 
 pub entries-rise : EntriesRise
 entries-rise r time interval room e i h =
     let l = entries-length (statusAt r time) r time mostObjects 0 in
-    entries-judged (entriesAt r time) .0 (writer-takes r time interval room e .records .good) i (omega (arith, l))
+    entries-judged (entriesAt r time) .0 (writer-takes r time interval room 0 e (omega arith) .records .good) i (omega (arith, l))
 
 -- the writer refuses with a number, never with 0
-refuses-some : (ns entries : List ℕ) (room n : ℕ) → Refused n ≡ planned ns entries room → n ≡ 0 → ⊥
+refuses-some : (ns entries : List ℕ) (maximum room n : ℕ) → Refused n ≡ planned ns entries maximum room → n ≡ 0 → ⊥
 unfolding planned
-refuses-some ns entries room n e z = go (allSmall ns) (eqb (firstFault ns) 0) (eqb (entriesFault entries) 0) (leb (reportSize (length (encodeAll ns)) 0) room) refl refl e
+refuses-some ns entries maximum room n e z =
+    go (allSmall ns) (eqb (firstFault ns) 0) (leb maximum mostEntries) (eqb (entriesFault entries) 0) (leb (reportSize (length (encodeAll ns)) 0) room) refl refl e
   where
-    go : (a b c d : Bool) → eqb (firstFault ns) 0 ≡ b → eqb (entriesFault entries) 0 ≡ c
-        → Refused n ≡ pick a (pick b (pick c (pick d (Done (reportSize (length (encodeAll ns)) (keptOf ns entries room)) (keptOf ns entries room)) (Refused 9)) (Refused (entriesFault entries))) (Refused (firstFault ns))) (Refused 5)
+    k : ℕ
+    k = keptOf ns entries maximum room
+
+    go : (a b m c d : Bool) → eqb (firstFault ns) 0 ≡ b → eqb (entriesFault entries) 0 ≡ c
+        → Refused n ≡ pick a (pick b (pick m (pick c (pick d (Done (reportSize (length (encodeAll ns)) k) k) (Refused 9)) (Refused (entriesFault entries))) (Refused 10)) (Refused (firstFault ns))) (Refused 5)
         → ⊥
-    go true true true true p q f = let y : _≡_ {A = ℕ} 0 1 = cc in omega arith
-    go true true true false p q f = let y : n ≡ 9 = cc in omega arith
-    go true true false d p q f = let y : n ≡ entriesFault entries = cc in eqb-false (entriesFault entries) 0 q (sym y ∙ z)
-    go true false c d p q f = let y : n ≡ firstFault ns = cc in eqb-false (firstFault ns) 0 p (sym y ∙ z)
-    go false b c d p q f = let y : n ≡ 5 = cc in omega arith
+    go true true true true true p q f = let y : _≡_ {A = ℕ} 0 1 = cc in omega arith
+    go true true true true false p q f = let y : n ≡ 9 = cc in omega arith
+    go true true true false d p q f = let y : n ≡ entriesFault entries = cc in eqb-false (entriesFault entries) 0 q (sym y ∙ z)
+    go true true false c d p q f = let y : n ≡ 10 = cc in omega arith
+    go true false m c d p q f = let y : n ≡ firstFault ns = cc in eqb-false (firstFault ns) 0 p (sym y ∙ z)
+    go false b m c d p q f = let y : n ≡ 5 = cc in omega arith
 
 pub through-and-back : ThroughAndBack
-through-and-back r time interval room xs e l =
-    go (writeAnswer (summaryOf r time interval) (entriesAt r time) (length xs)) refl (report-writes (summaryOf r time interval) (entriesAt r time) (length xs) .accepted .1 (writer-takes r time interval room e, l))
+through-and-back r time interval room maximum xs e m l =
+    go (writeAnswer (summaryOf r time interval) (entriesAt r time) maximum (length xs)) refl (report-writes (summaryOf r time interval) (entriesAt r time) maximum (length xs) .accepted .1 (writer-takes r time interval room maximum e m, l))
   where
-    go : (w : Written) → w ≡ writeAnswer (summaryOf r time interval) (entriesAt r time) (length xs) → writtenRefusal (writeAnswer (summaryOf r time interval) (entriesAt r time) (length xs)) ≡ 0 → GoesThrough r time interval xs
-    go (Done next kept) q z = record { next = next; kept = kept; written = q; back = write-read (summaryOf r time interval) (entriesAt r time) xs next kept q }
-    go (Refused n) q z = absurd (refuses-some (numbersOf (summaryOf r time interval)) (entriesAt r time) (length xs) n q (ap writtenRefusal q ∙ z))
+    go : (w : Written) → w ≡ writeAnswer (summaryOf r time interval) (entriesAt r time) maximum (length xs) → writtenRefusal (writeAnswer (summaryOf r time interval) (entriesAt r time) maximum (length xs)) ≡ 0
+        → GoesThrough r time interval maximum xs
+    go (Done next kept) q z = record { next = next; kept = kept; written = q; back = write-read (summaryOf r time interval) (entriesAt r time) maximum xs next kept q }
+    go (Refused n) q z = absurd (refuses-some (numbersOf (summaryOf r time interval)) (entriesAt r time) maximum (length xs) n q (ap writtenRefusal q ∙ z))

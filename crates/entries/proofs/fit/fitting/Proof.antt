@@ -1,75 +1,72 @@
--- `entries::fitting` meets its contract. The loop's invariant: the answer from here is the answer from the top.
+-- `entries::fitting` meets its contract: as many records as the room holds without their count, or one fewer.
 -- Assumes nothing.
 use borrow.Author.Needs.{needs}
-use mathlib.Core.Path.{_≡_, sym, ap, _∙_}
-use Prim.Native.Nat.{_≤_}
-use native.Mathlib.Nat.{min-le-right}
+use mathlib.Core.Path.{_≡_, refl, ap, _∙_}
+use Prim.Native.Nat.{ℕ, zero, suc, _/_, _<_, min}
 use native.Mathlib.Omega.{arith}
-use Rattle.wire.proofs.Lengths.{width-le}
-use Rattle.entries.specs.Limits.{mostEntries}
-use Rattle.entries.specs.Fitting.{sizeOf, largestWithin, fittingOf}
-use Rattle.entries.proofs.Largest.{within-yes, within-no, within-zero}
+use Rattle.entries.specs.Limits.{recordSize}
+use Rattle.entries.proofs.Largest.{fits-none, fits-all, fits-one-fewer}
 use Rattle.entries.proofs.fit.fitting.Statement.{statement}
 use Rattle.entries.proofs.fit.fitting.Tie as tie
 
-abbrev Inv-loop : tie.InvT-loop
-Inv-loop given room k₀ k = (k ≤ mostEntries) × (largestWithin sizeOf room k ≡ fittingOf given room)
-
-abbrev μ-loop : tie.MeasureT-loop
-μ-loop given room k₀ k = k
-
-at-most-requires : tie.Need-at-most-requires Inv-loop μ-loop
+at-most-requires : tie.Need-at-most-requires
 at-most-requires c κs = search needs
 
-loop-holds : tie.Need-loop-holds Inv-loop μ-loop
-loop-holds c =
-    let e = c .at-most .ensures in
-    (omega (arith, e, min-le-right (c .before .args .given) mostEntries), ap (largestWithin sizeOf (c .before .args .room)) e)
+at-most-requires-2 : tie.Need-at-most-requires-2
+at-most-requires-2 c κs = search needs
 
-width-requires : tie.Need-width-requires Inv-loop μ-loop
+-- the smaller of the three
+smallest : (k n given most room : ℕ) → n ≡ min given most → k ≡ min n (room / recordSize) → k ≡ min (min given most) (room / recordSize)
+smallest k n given most room e f = f ∙ ap (λ (x : ℕ). min x (room / recordSize)) e
+
+above-none : (k : ℕ) → (k ≡ 0 → ⊥) → 0 < k
+above-none zero n = absurd (n refl)
+above-none (suc k) n = omega arith
+
+returns : tie.Need-returns
+returns c =
+    let a = c .before .before .before .args in
+    let b = c .before in
+    fits-none (a .given) (a .most) (a .room) (b .at-most2 .result) (smallest _ _ (a .given) (a .most) (a .room) (b .before .at-most .ensures) (b .at-most2 .ensures)) (c .if1 .taken)
+
+width-requires : tie.Need-width-requires
 width-requires c κs = search needs
 
-mul-if1 : tie.Need-mul-if1 Inv-loop μ-loop
-mul-if1 c = search needs
+mul-if2 : tie.Need-mul-if2
+mul-if2 c = search needs
 
-add-if1 : tie.Need-add-if1 Inv-loop μ-loop
-add-if1 c = omega (arith, c .width .ensures, width-le (c .before .before .loop .k))
+sub-if2 : tie.Need-sub-if2
+sub-if2 c = search needs
 
-returns : tie.Need-returns Inv-loop μ-loop
-returns c =
-    let l = c .before .before .before .loop in
-    within-yes sizeOf (c .before .before .before .before .before .args .room) (l .k) (c .before .before .loop-test .taken) (omega (arith, c .before .width .ensures)) ∙ l .inv .1
-
-sub-k : tie.Need-sub-k Inv-loop μ-loop
-sub-k c = search needs
-
-loop-less : tie.Need-loop-less Inv-loop μ-loop
-loop-less c = search needs
-
-loop-again : tie.Need-loop-again Inv-loop μ-loop
-loop-again c =
-    let l = c .before .before .before .loop in
-    (omega arith, within-no sizeOf (c .before .before .before .before .before .args .room) (l .k) (c .before .before .loop-test .taken) (omega (arith, c .before .width .ensures)) ∙ l .inv .1)
-
-returns-2 : tie.Need-returns-2 Inv-loop μ-loop
+returns-2 : tie.Need-returns-2
 returns-2 c =
-    let room = c .before .before .before .args .room in
-    let e : c .before .loop .k ≡ 0 = omega arith in
-    within-zero sizeOf room ∙ ap (largestWithin sizeOf room) (sym e) ∙ c .before .loop .inv .1
+    let a = c .before .before .before .before .before .args in
+    let b = c .before .before .before in
+    let w = c .before .width .ensures in
+    let p : 0 < b .at-most2 .result = above-none _ (c .before .before .if1 .left) in
+    fits-all (a .given) (a .most) (a .room) (b .at-most2 .result) (smallest _ _ (a .given) (a .most) (a .room) (b .before .at-most .ensures) (b .at-most2 .ensures)) p (omega (arith, w))
+
+sub-result : tie.Need-sub-result
+sub-result c = search needs
+
+returns-3 : tie.Need-returns-3
+returns-3 c =
+    let a = c .before .before .before .before .before .args in
+    let b = c .before .before .before in
+    let w = c .before .width .ensures in
+    let p : 0 < b .at-most2 .result = above-none _ (c .before .before .if1 .left) in
+    fits-one-fewer (a .given) (a .most) (a .room) (b .at-most2 .result) (smallest _ _ (a .given) (a .most) (a .room) (b .before .at-most .ensures) (b .at-most2 .ensures)) p (omega (arith, w))
 
 pub fitting-spec : {M : Type 1} → statement M
 fitting-spec =
     tie.close
     (tie.spec
-    Inv-loop
-    μ-loop
     at-most-requires
-    loop-holds
-    width-requires
-    mul-if1
-    add-if1
+    at-most-requires-2
     returns
-    sub-k
-    loop-less
-    loop-again
-    returns-2)
+    width-requires
+    mul-if2
+    sub-if2
+    returns-2
+    sub-result
+    returns-3)

@@ -20,14 +20,14 @@ unfolding judgeLater
 returns c =
     let a = c .before .before .before .before .args in
     let ns = now (a .numbers) in
-    rw (eq-eqb ((length ns - 8) / 2) (getD ns 7 0) (c .before .if1 .taken), le-leb (a .v) 50 (c .if2 .taken))
+    rw (eq-eqb ((length ns - 8) / 2) (getD ns 7 0) (c .before .if1 .taken), le-leb (a .v) 200 (c .if2 .taken))
 
 returns-2 : tie.Need-returns-2
 unfolding judgeLater
 returns-2 c =
     let a = c .before .before .before .before .args in
     let ns = now (a .numbers) in
-    rw (eq-eqb ((length ns - 8) / 2) (getD ns 7 0) (c .before .if1 .taken), lt-leb (a .v) 50 (c .if2 .left))
+    rw (eq-eqb ((length ns - 8) / 2) (getD ns 7 0) (c .before .if1 .taken), lt-leb (a .v) 200 (c .if2 .left))
 
 known-type-requires : tie.Need-known-type-requires
 known-type-requires c κs = search needs

@@ -5,7 +5,7 @@ use Prim.Native.Nat.{_-_}
 use native.Mathlib.Omega.{arith}
 use denote.Ref.{now}
 use Rattle.wire.proofs.Writing.{length-large, length-bytes}
-use Rattle.report.proofs.Planning.{plan-large, plan-fault, plan-broken, plan-room, plan-done, plan-fits}
+use Rattle.report.proofs.Planning.{plan-large, plan-fault, plan-above, plan-broken, plan-room, plan-done, plan-fits}
 use borrow.Author.Needs.{needs}
 use Rattle.report.proofs.writer.plan.Statement.{statement}
 use Rattle.report.proofs.writer.plan.Tie as tie
@@ -20,7 +20,9 @@ enum-told : tie.Need-enum-told
 enum-told c = search needs
 
 returns : tie.Need-returns
-returns c = let a = c .before .before .before .before .before .args in plan-large (now (a .numbers)) (now (a .entries)) (a .room) (length-large (now (a .numbers)) (sym (c .enum-told .given .1) ∙ c .before .before .length-of .ensures))
+returns c =
+    let a = c .before .before .before .before .before .args in
+    plan-large (now (a .numbers)) (now (a .entries)) (a .maximum) (a .room) (length-large (now (a .numbers)) (sym (c .enum-told .given .1) ∙ c .before .before .length-of .ensures))
 
 first-fault-requires : tie.Need-first-fault-requires
 first-fault-requires c κs = search needs
@@ -29,25 +31,32 @@ returns-2 : tie.Need-returns-2
 returns-2 c =
     let a = c .before .before .before .before .before .before .before .before .args in
     let b = length-bytes (now (a .numbers)) _ (sym (c .before .before .before .head .given .1) ∙ c .before .before .before .before .before .length-of .ensures) in
-    plan-fault (now (a .numbers)) (now (a .entries)) (a .room) (b .0) _ (c .before .first-fault .ensures) (c .if1 .taken)
-
-entries-fault-requires : tie.Need-entries-fault-requires
-entries-fault-requires c κs = search needs
+    plan-fault (now (a .numbers)) (now (a .entries)) (a .maximum) (a .room) (b .0) _ (c .before .first-fault .ensures) (c .if1 .taken)
 
 returns-3 : tie.Need-returns-3
 returns-3 c =
-    let a = c .before .before .before .before .before .before .before .before .before .before .args in
-    let b = length-bytes (now (a .numbers)) _ (sym (c .before .before .before .before .before .head .given .1) ∙ c .before .before .before .before .before .before .before .length-of .ensures) in
-    let z = sym (c .before .before .before .first-fault .ensures) ∙ c .before .before .if1 .left in
-    plan-broken (now (a .numbers)) (now (a .entries)) (a .room) (b .0) z _ (c .before .entries-fault .ensures) (c .if2 .taken)
+    let a = c .before .before .before .before .before .before .before .before .before .args in
+    let b = length-bytes (now (a .numbers)) _ (sym (c .before .before .before .before .head .given .1) ∙ c .before .before .before .before .before .before .length-of .ensures) in
+    let z = sym (c .before .before .first-fault .ensures) ∙ c .before .if1 .left in
+    plan-above (now (a .numbers)) (now (a .entries)) (a .maximum) (a .room) (b .0) z (c .if2 .taken)
+
+entries-fault-requires : tie.Need-entries-fault-requires
+entries-fault-requires c κs = search needs
 
 returns-4 : tie.Need-returns-4
 returns-4 c =
     let a = c .before .before .before .before .before .before .before .before .before .before .before .args in
     let b = length-bytes (now (a .numbers)) _ (sym (c .before .before .before .before .before .before .head .given .1) ∙ c .before .before .before .before .before .before .before .before .length-of .ensures) in
     let z = sym (c .before .before .before .before .first-fault .ensures) ∙ c .before .before .before .if1 .left in
-    let y = sym (c .before .before .entries-fault .ensures) ∙ c .before .if2 .left in
-    plan-room (now (a .numbers)) (now (a .entries)) (a .room) (b .0) z y (omega (arith, b .1, c .if3 .taken))
+    plan-broken (now (a .numbers)) (now (a .entries)) (a .maximum) (a .room) (b .0) z (c .before .before .if2 .left) _ (c .before .entries-fault .ensures) (c .if3 .taken)
+
+returns-5 : tie.Need-returns-5
+returns-5 c =
+    let a = c .before .before .before .before .before .before .before .before .before .before .before .before .args in
+    let b = length-bytes (now (a .numbers)) _ (sym (c .before .before .before .before .before .before .before .head .given .1) ∙ c .before .before .before .before .before .before .before .before .before .length-of .ensures) in
+    let z = sym (c .before .before .before .before .before .first-fault .ensures) ∙ c .before .before .before .before .if1 .left in
+    let y = sym (c .before .before .entries-fault .ensures) ∙ c .before .if3 .left in
+    plan-room (now (a .numbers)) (now (a .entries)) (a .maximum) (a .room) (b .0) z (c .before .before .before .if2 .left) y (omega (arith, b .1, c .if4 .taken))
 
 sub-fitting : tie.Need-sub-fitting
 sub-fitting c = search needs
@@ -58,22 +67,22 @@ fitting-requires c κs = search needs
 width-requires : tie.Need-width-requires
 width-requires c κs = search needs
 
-add-t12 : tie.Need-add-t12
-add-t12 c = let f = plan-fits _ _ _ _ _ (c .before .before .if3 .left) (c .before .fitting .ensures) (c .width .ensures) in omega (arith, f, c .before .before .before .before .before .before .before .before .before .before .before .before .before .fits .room)
-
-mul-t11 : tie.Need-mul-t11
-mul-t11 c = let f = plan-fits _ _ _ _ _ (c .before .before .if3 .left) (c .before .fitting .ensures) (c .width .ensures) in omega (arith, f, c .before .before .before .before .before .before .before .before .before .before .before .before .before .fits .room)
-
 add-t14 : tie.Need-add-t14
-add-t14 c = let f = plan-fits _ _ _ _ _ (c .before .before .if3 .left) (c .before .fitting .ensures) (c .width .ensures) in omega (arith, f, c .before .before .before .before .before .before .before .before .before .before .before .before .before .fits .room)
+add-t14 c = let f = plan-fits _ _ _ _ _ _ (c .before .before .if4 .left) (c .before .fitting .ensures) (c .width .ensures) in omega (arith, f, c .before .before .before .before .before .before .before .before .before .before .before .before .before .before .fits .room)
 
-returns-5 : tie.Need-returns-5
-returns-5 c =
-    let a = c .before .before .before .before .before .before .before .before .before .before .before .before .before .args in
-    let b = length-bytes (now (a .numbers)) _ (sym (c .before .before .before .before .before .before .before .before .head .given .1) ∙ c .before .before .before .before .before .before .before .before .before .before .length-of .ensures) in
-    let z = sym (c .before .before .before .before .before .before .first-fault .ensures) ∙ c .before .before .before .before .before .if1 .left in
-    let y = sym (c .before .before .before .before .entries-fault .ensures) ∙ c .before .before .before .if2 .left in
-    plan-done (now (a .numbers)) (now (a .entries)) (a .room) (b .0) z y _ _ _ (b .1) (c .before .before .if3 .left) (c .before .fitting .ensures) (c .width .ensures)
+mul-t13 : tie.Need-mul-t13
+mul-t13 c = let f = plan-fits _ _ _ _ _ _ (c .before .before .if4 .left) (c .before .fitting .ensures) (c .width .ensures) in omega (arith, f, c .before .before .before .before .before .before .before .before .before .before .before .before .before .before .fits .room)
+
+add-t15 : tie.Need-add-t15
+add-t15 c = let f = plan-fits _ _ _ _ _ _ (c .before .before .if4 .left) (c .before .fitting .ensures) (c .width .ensures) in omega (arith, f, c .before .before .before .before .before .before .before .before .before .before .before .before .before .before .fits .room)
+
+returns-6 : tie.Need-returns-6
+returns-6 c =
+    let a = c .before .before .before .before .before .before .before .before .before .before .before .before .before .before .args in
+    let b = length-bytes (now (a .numbers)) _ (sym (c .before .before .before .before .before .before .before .before .before .head .given .1) ∙ c .before .before .before .before .before .before .before .before .before .before .before .length-of .ensures) in
+    let z = sym (c .before .before .before .before .before .before .before .first-fault .ensures) ∙ c .before .before .before .before .before .before .if1 .left in
+    let y = sym (c .before .before .before .before .entries-fault .ensures) ∙ c .before .before .before .if3 .left in
+    plan-done (now (a .numbers)) (now (a .entries)) (a .maximum) (a .room) (b .0) z (c .before .before .before .before .before .if2 .left) y _ _ _ (b .1) (c .before .before .if4 .left) (c .before .fitting .ensures) (c .width .ensures)
 
 pub plan-spec : {M : Type 1} → statement M
 plan-spec =
@@ -85,13 +94,14 @@ plan-spec =
     returns
     first-fault-requires
     returns-2
-    entries-fault-requires
     returns-3
+    entries-fault-requires
     returns-4
+    returns-5
     sub-fitting
     fitting-requires
     width-requires
-    add-t12
-    mul-t11
     add-t14
-    returns-5)
+    mul-t13
+    add-t15
+    returns-6)

@@ -25,15 +25,15 @@ first h numbers m e t = rw e t
 small : (h : Header) (m : ℕ) → m ≡ min (h .metrics) 4 → m ≤ 4
 small h m e = rw e (min-le-right (h .metrics) 4)
 
-answered : (h : Header) (entries : List ℕ) (room : ℕ) (w : Written) (numbers : List ℕ) (n : ℕ) → take n numbers ≡ numbersOf h → w ≡ planned (take n numbers) entries room → w ≡ writeAnswer h entries room
-answered h entries room w numbers n t e = rw t at e
+answered : (h : Header) (entries : List ℕ) (maximum room : ℕ) (w : Written) (numbers : List ℕ) (n : ℕ) → take n numbers ≡ numbersOf h → w ≡ planned (take n numbers) entries maximum room → w ≡ writeAnswer h entries maximum room
+answered h entries maximum room w numbers n t e = rw t at e
 
 -- what the code knows once the plan is accepted
-accepted : (h : Header) (entries : List ℕ) (room : ℕ) (numbers : List ℕ) (m : ℕ) (w : Written) (next kept : ℕ)
-    → m ≡ min (h .metrics) 4 → take (8 + 2 * min (h .metrics) 4) numbers ≡ numbersOf h → w ≡ planned (take (8 + 2 * m) numbers) entries room → w ≡ Done next kept
-    → Accepted (numbersOf h) entries room next kept
-accepted h entries room numbers m w next kept e t f d =
-    plan-accepted (numbersOf h) entries room next kept (sym d ∙ answered h entries room w numbers (8 + 2 * m) (first h numbers m e t) f)
+accepted : (h : Header) (entries : List ℕ) (maximum room : ℕ) (numbers : List ℕ) (m : ℕ) (w : Written) (next kept : ℕ)
+    → m ≡ min (h .metrics) 4 → take (8 + 2 * min (h .metrics) 4) numbers ≡ numbersOf h → w ≡ planned (take (8 + 2 * m) numbers) entries maximum room → w ≡ Done next kept
+    → Accepted (numbersOf h) entries maximum room next kept
+accepted h entries maximum room numbers m w next kept e t f d =
+    plan-accepted (numbersOf h) entries maximum room next kept (sym d ∙ answered h entries maximum room w numbers (8 + 2 * m) (first h numbers m e t) f)
 
 looked-at-requires : tie.Need-looked-at-requires
 looked-at-requires c κs = search needs
@@ -69,8 +69,8 @@ returns c =
     let a = c .before .before .before .before .before .before .before .before .args in
     let h = a .header in
     let t = first h (c .before .before .before .before .numbers-of .result) (c .before .before .before .before .before .looked-at .result) (c .before .before .before .before .before .looked-at .ensures) (c .before .before .before .before .numbers-of .ensures) in
-    let w = answered h (now (a .entries)) (length (now (a .buf))) (c .before .before .plan .result) (c .before .before .before .before .numbers-of .result) (8 + 2 * c .before .before .before .before .before .looked-at .result) t (c .before .before .plan .ensures) in
-    write-refused h (now (a .entries)) (now (a .buf)) _ w _ (c .enum-told .given .1)
+    let w = answered h (now (a .entries)) (a .maximum) (length (now (a .buf))) (c .before .before .plan .result) (c .before .before .before .before .numbers-of .result) (8 + 2 * c .before .before .before .before .before .looked-at .result) t (c .before .before .plan .ensures) in
+    write-refused h (now (a .entries)) (a .maximum) (now (a .buf)) _ w _ (c .enum-told .given .1)
 
 mul-numbers : tie.Need-mul-numbers
 mul-numbers c = search needs
@@ -85,28 +85,28 @@ mul-bytes : tie.Need-mul-bytes
 mul-bytes c =
     let a = c .before .before .before .before .before .before .before .before .before .args in
     let h = a .header in
-    let p = accepted h (now (a .entries)) (length (now (a .buf))) _ _ _ _ _ (c .before .before .before .before .before .before .looked-at .ensures) (c .before .before .before .before .before .numbers-of .ensures) (c .before .before .before .plan .ensures) (c .before .answer .given .1) in
+    let p = accepted h (now (a .entries)) (a .maximum) (length (now (a .buf))) _ _ _ _ _ (c .before .before .before .before .before .before .looked-at .ensures) (c .before .before .before .before .before .numbers-of .ensures) (c .before .before .before .plan .ensures) (c .before .answer .given .1) in
     omega (arith, kept-limit p)
 
 sub-at : tie.Need-sub-at
 sub-at c =
     let a = c .before .before .before .before .before .before .before .before .before .args in
     let h = a .header in
-    let p = accepted h (now (a .entries)) (length (now (a .buf))) _ _ _ _ _ (c .before .before .before .before .before .before .looked-at .ensures) (c .before .before .before .before .before .numbers-of .ensures) (c .before .before .before .plan .ensures) (c .before .answer .given .1) in
+    let p = accepted h (now (a .entries)) (a .maximum) (length (now (a .buf))) _ _ _ _ _ (c .before .before .before .before .before .before .looked-at .ensures) (c .before .before .before .before .before .numbers-of .ensures) (c .before .before .before .plan .ensures) (c .before .answer .given .1) in
     omega (arith, p .size)
 
 sub-start : tie.Need-sub-start
 sub-start c =
     let a = c .before .before .before .before .before .before .before .before .before .args in
     let h = a .header in
-    let p = accepted h (now (a .entries)) (length (now (a .buf))) _ _ _ _ _ (c .before .before .before .before .before .before .looked-at .ensures) (c .before .before .before .before .before .numbers-of .ensures) (c .before .before .before .plan .ensures) (c .before .answer .given .1) in
+    let p = accepted h (now (a .entries)) (a .maximum) (length (now (a .buf))) _ _ _ _ _ (c .before .before .before .before .before .before .looked-at .ensures) (c .before .before .before .before .before .numbers-of .ensures) (c .before .before .before .plan .ensures) (c .before .answer .given .1) in
     omega (arith, kept-given p)
 
 add-end : tie.Need-add-end
 add-end c =
     let a = c .before .before .before .before .before .before .before .before .before .args in
     let h = a .header in
-    let p = accepted h (now (a .entries)) (length (now (a .buf))) _ _ _ _ _ (c .before .before .before .before .before .before .looked-at .ensures) (c .before .before .before .before .before .numbers-of .ensures) (c .before .before .before .plan .ensures) (c .before .answer .given .1) in
+    let p = accepted h (now (a .entries)) (a .maximum) (length (now (a .buf))) _ _ _ _ _ (c .before .before .before .before .before .before .looked-at .ensures) (c .before .before .before .before .before .numbers-of .ensures) (c .before .before .before .plan .ensures) (c .before .answer .given .1) in
     omega (arith, kept-given p, c .before .before .before .before .before .before .before .before .before .good)
 
 array-share-prefix-numbers-2 : tie.Need-array-share-prefix-numbers-2
@@ -129,7 +129,7 @@ part-store-end : tie.Need-part-store-end
 part-store-end c =
     let a = c .before .before .before .before .before .before .before .before .before .before .before .args in
     let h = a .header in
-    let p = accepted h (now (a .entries)) (length (now (a .buf))) _ _ _ _ _ (c .before .before .before .before .before .before .before .before .looked-at .ensures) (c .before .before .before .before .before .before .before .numbers-of .ensures) (c .before .before .before .before .before .plan .ensures) (c .before .before .before .answer .given .1) in
+    let p = accepted h (now (a .entries)) (a .maximum) (length (now (a .buf))) _ _ _ _ _ (c .before .before .before .before .before .before .before .before .looked-at .ensures) (c .before .before .before .before .before .before .before .numbers-of .ensures) (c .before .before .before .before .before .plan .ensures) (c .before .before .before .answer .given .1) in
     omega (arith, kept-given p)
 
 store-requires : tie.Need-store-requires
@@ -137,9 +137,9 @@ store-requires c κs =
     let a = c .before .before .before .before .before .before .before .before .before .before .before .before .args in
     let h = a .header in
     let t = first h (c .before .before .before .before .before .before .before .before .numbers-of .result) (c .before .before .before .before .before .before .before .before .before .looked-at .result) (c .before .before .before .before .before .before .before .before .before .looked-at .ensures) (c .before .before .before .before .before .before .before .before .numbers-of .ensures) in
-    let p = accepted h (now (a .entries)) (length (now (a .buf))) _ _ _ _ _ (c .before .before .before .before .before .before .before .before .before .looked-at .ensures) (c .before .before .before .before .before .before .before .before .numbers-of .ensures) (c .before .before .before .before .before .before .plan .ensures) (c .before .before .before .before .answer .given .1) in
+    let p = accepted h (now (a .entries)) (a .maximum) (length (now (a .buf))) _ _ _ _ _ (c .before .before .before .before .before .before .before .before .before .looked-at .ensures) (c .before .before .before .before .before .before .before .before .numbers-of .ensures) (c .before .before .before .before .before .before .plan .ensures) (c .before .before .before .before .answer .given .1) in
     let l : length (c .before .before .before .before .before .before .before .before .numbers-of .result) ≡ 17 = search needs in
-    ready (numbersOf h) (now (a .entries)) (now (a .buf)) (c .before .before .before .before .before .before .before .before .numbers-of .result) (8 + 2 * c .before .before .before .before .before .before .before .before .before .looked-at .result) _ _ p (omega (arith, small (c .before .before .before .before .before .before .before .before .before .before .before .before .args .header) (c .before .before .before .before .before .before .before .before .before .looked-at .result) (c .before .before .before .before .before .before .before .before .before .looked-at .ensures))) t
+    ready (numbersOf h) (now (a .entries)) (now (a .buf)) (c .before .before .before .before .before .before .before .before .numbers-of .result) (a .maximum) (8 + 2 * c .before .before .before .before .before .before .before .before .before .looked-at .result) _ _ p (omega (arith, small (c .before .before .before .before .before .before .before .before .before .before .before .before .args .header) (c .before .before .before .before .before .before .before .before .before .looked-at .result) (c .before .before .before .before .before .before .before .before .before .looked-at .ensures))) t
 
 same-length : tie.Need-same-length
 same-length c = search needs
@@ -149,11 +149,11 @@ returns-2 c =
     let a = c .before .before .before .before .before .before .before .before .before .before .before .before .before .before .before .args in
     let h = a .header in
     let t = first h (c .before .before .before .before .before .before .before .before .before .before .before .numbers-of .result) (c .before .before .before .before .before .before .before .before .before .before .before .before .looked-at .result) (c .before .before .before .before .before .before .before .before .before .before .before .before .looked-at .ensures) (c .before .before .before .before .before .before .before .before .before .before .before .numbers-of .ensures) in
-    let w = answered h (now (a .entries)) (length (now (a .buf))) (c .before .before .before .before .before .before .before .before .before .plan .result) (c .before .before .before .before .before .before .before .before .before .before .before .numbers-of .result) (8 + 2 * c .before .before .before .before .before .before .before .before .before .before .before .before .looked-at .result) t (c .before .before .before .before .before .before .before .before .before .plan .ensures) in
-    let p = accepted h (now (a .entries)) (length (now (a .buf))) _ _ _ _ _ (c .before .before .before .before .before .before .before .before .before .before .before .before .looked-at .ensures) (c .before .before .before .before .before .before .before .before .before .before .before .numbers-of .ensures) (c .before .before .before .before .before .before .before .before .before .plan .ensures) (c .before .before .before .before .before .before .before .answer .given .1) in
+    let w = answered h (now (a .entries)) (a .maximum) (length (now (a .buf))) (c .before .before .before .before .before .before .before .before .before .plan .result) (c .before .before .before .before .before .before .before .before .before .before .before .numbers-of .result) (8 + 2 * c .before .before .before .before .before .before .before .before .before .before .before .before .looked-at .result) t (c .before .before .before .before .before .before .before .before .before .plan .ensures) in
+    let p = accepted h (now (a .entries)) (a .maximum) (length (now (a .buf))) _ _ _ _ _ (c .before .before .before .before .before .before .before .before .before .before .before .before .looked-at .ensures) (c .before .before .before .before .before .before .before .before .before .before .before .numbers-of .ensures) (c .before .before .before .before .before .before .before .before .before .plan .ensures) (c .before .before .before .before .before .before .before .answer .given .1) in
     let l : length (c .before .before .before .before .before .before .before .before .before .before .before .numbers-of .result) ≡ 17 = search needs in
-    write-done h (now (a .entries)) (now (a .buf)) _ w _ _ _ (c .before .before .before .before .before .before .before .answer .given .1)
-    (stored-report (numbersOf h) (now (a .entries)) (now (a .buf)) (c .before .before .before .before .before .before .before .before .before .before .before .numbers-of .result) (8 + 2 * c .before .before .before .before .before .before .before .before .before .before .before .before .looked-at .result) _ _ p (omega (arith, small (c .before .before .before .before .before .before .before .before .before .before .before .before .before .before .before .args .header) (c .before .before .before .before .before .before .before .before .before .before .before .before .looked-at .result) (c .before .before .before .before .before .before .before .before .before .before .before .before .looked-at .ensures))) t _ (c .before .before .store .ensures))
+    write-done h (now (a .entries)) (a .maximum) (now (a .buf)) _ w _ _ _ (c .before .before .before .before .before .before .before .answer .given .1)
+    (stored-report (numbersOf h) (now (a .entries)) (now (a .buf)) (c .before .before .before .before .before .before .before .before .before .before .before .numbers-of .result) (a .maximum) (8 + 2 * c .before .before .before .before .before .before .before .before .before .before .before .before .looked-at .result) _ _ p (omega (arith, small (c .before .before .before .before .before .before .before .before .before .before .before .before .before .before .before .args .header) (c .before .before .before .before .before .before .before .before .before .before .before .before .looked-at .result) (c .before .before .before .before .before .before .before .before .before .before .before .before .looked-at .ensures))) t _ (c .before .before .store .ensures))
 
 pub write-report-spec : {M : Type 1} → statement M
 write-report-spec =
