@@ -10,7 +10,7 @@ use Rattle.receiver.specs.Totals.{totalsConsistent, totalsAfter}
 use Rattle.receiver.specs.Record.{limitsRule, delayRule, pendingConsistent, agreedConsistent, consistent}
 use Rattle.receiver.specs.Packet.{packetRefusal, pendingAfter, outOfOrder, gapReached, order, congestion, firstCause, causeAfter, packetAfter, packetCall}
 use Rattle.receiver.specs.Calls.{opened}
-use Rattle.seen.specs.Ack.{rangesBelow, frame, largestWhere, rangesKept}
+use Rattle.ack.specs.Ack.{rangesBelow, frame, largestWhere, rangesKept}
 use Rattle.receiver.specs.Write.{writeRefusal, afterWrite, writeAnswer}
 use Rattle.events.specs.Events.{ecnMark, readEvent, writeCall, eventCall, recordCall}
 use Rattle.decimal.specs.Decimal.{placesFrom, placesOf, decimal}

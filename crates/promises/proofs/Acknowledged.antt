@@ -12,12 +12,12 @@ use Rattle.seen.specs.declared.Micros.{Micros}
 use Rattle.receiver.specs.declared.Receiver.{Receiver}
 use Rattle.seen.specs.Received.{floor, floorOf, seenConsistent, reported}
 use Rattle.receiver.specs.Record.{consistent}
-use Rattle.seen.specs.Ack.{ranges, numberOfRanges, ackDelay, frame, rangesKept}
+use Rattle.ack.specs.Ack.{ranges, numberOfRanges, ackDelay, frame, rangesKept}
 use Rattle.receiver.specs.Totals.{tailOf}
 use Rattle.receiver.specs.Write.{writeAnswer}
-use Rattle.seen.specs.Emits.{Received, MaximalRuns as WindowRuns}
-use Rattle.seen.proofs.Maximal.{ranges-are-runs}
-use Rattle.seen.proofs.Fitting.{kept-says}
+use Rattle.ack.specs.Emits.{Received, MaximalRuns as WindowRuns}
+use Rattle.ack.proofs.Maximal.{ranges-are-runs}
+use Rattle.ack.proofs.Fitting.{kept-says}
 use Rattle.receiver.proofs.Emits.{write-read-back}
 use Rattle.promises.specs.Sequence.{write, Calls, Outcome, after, opening}
 use Rattle.promises.specs.Accepted.{acceptedOf, packets}

@@ -16,7 +16,7 @@ use Rattle.receiver.specs.declared.Receiver.{Receiver}
 use Rattle.seen.specs.Numbers.{small}
 use Rattle.seen.specs.Received.{floor, floorOf, received, reported}
 use Rattle.receiver.specs.Record.{delayRule, consistent}
-use Rattle.seen.specs.Ack.{frame, ackDelay}
+use Rattle.ack.specs.Ack.{frame, ackDelay}
 use Rattle.receiver.specs.Exactly.{row, first, verdictOf}
 use Rattle.receiver.specs.declared.Totals.{Totals}
 use Rattle.receiver.specs.Totals.{tailOf}

@@ -12,7 +12,7 @@ use Rattle.frames.specs.declared.Ack.the-variants.{Frame}
 use Rattle.receiver.specs.declared.Millis.{Millis}
 use Rattle.receiver.specs.declared.Kind.{Kind}
 use Rattle.seen.specs.declared.Micros.{Micros}
-use Rattle.seen.specs.Ack.{ackDelay}
+use Rattle.ack.specs.Ack.{ackDelay}
 use Rattle.receiver.specs.Totals.{tailOf}
 use Rattle.receiver.specs.Write.{writeAnswer, writeBytes}
 use Rattle.promises.specs.Sequence.{write, Calls, accepted, after, replied, opening}

@@ -13,7 +13,7 @@ use Rattle.seen.specs.Numbers.{small}
 use Rattle.seen.specs.Received.{reported}
 use Rattle.receiver.specs.Totals.{tailOf}
 use Rattle.receiver.specs.Record.{delayRule}
-use Rattle.seen.specs.Ack.{frame, ackDelay}
+use Rattle.ack.specs.Ack.{frame, ackDelay}
 use Rattle.receiver.specs.Exactly.{row, first, verdictOf}
 use Rattle.promises.specs.Sequence.{Call, packet, timer, immediate, threshold, write, confirm, Calls, none, _then_, Reply, replyOf, replyTo, replied, opening}
 use Rattle.promises.specs.Accepted.{joined, acceptedOf, packets, before, frames}

@@ -19,7 +19,7 @@ use Rattle.receiver.specs.declared.Totals.{Totals}
 use Rattle.receiver.specs.declared.Receiver.{Receiver}
 use Rattle.receiver.specs.Totals.{isCe, isEct0, isEct1, isNone}
 use Rattle.seen.specs.Received.{floor, floorOf, received}
-use Rattle.seen.specs.Ack.{numberAt}
+use Rattle.ack.specs.Ack.{numberAt}
 use Rattle.promises.specs.Sequence.{packet, timer, immediate, threshold, write, confirm, Calls, none, _then_, accepted, after, replied, opening}
 use Rattle.promises.specs.Accepted.{Packet, Frame, oneIf, acceptedOf, packets, since, before, frames}
 

@@ -12,9 +12,9 @@ use Rattle.wire.proofs.Lengths.{split}
 use Rattle.seen.specs.declared.Micros.{Micros}
 use Rattle.seen.specs.Numbers.{small}
 use Rattle.seen.specs.Received.{seenConsistent, reported}
-use Rattle.seen.specs.Ack.{ackDelay, frame, ackRefusal, ackFrame, acked, laid, ackAnswer, ackBytes}
+use Rattle.ack.specs.Ack.{ackDelay, frame, ackRefusal, ackFrame, acked, laid, ackAnswer, ackBytes}
 use Rattle.seen.proofs.Tests.{by-test}
-use Rattle.seen.proofs.Emits.{frame-fits, laid-long, laid-stays, ack-read-back}
+use Rattle.ack.proofs.Emits.{frame-fits, laid-long, laid-stays, ack-read-back}
 use Rattle.receiver.specs.declared.Receiver.{Receiver}
 use Rattle.frames.specs.declared.Tail.{Tail}
 use Rattle.receiver.specs.declared.Kind.{Kind}

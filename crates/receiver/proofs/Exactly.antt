@@ -16,8 +16,8 @@ use Rattle.receiver.specs.declared.Verdict.{Verdict}
 use Rattle.receiver.specs.declared.Verdict.the-variants.{Accepted, Stale, Refused}
 use Rattle.seen.specs.Numbers.{small}
 use Rattle.seen.specs.Received.{floor, received, seenConsistent, numberRefusal}
-use Rattle.seen.proofs.Ranges.{both}
-use Rattle.seen.proofs.Reported.{floor-at-most}
+use Rattle.ack.proofs.Ranges.{both}
+use Rattle.ack.proofs.Reporting.{floor-at-most}
 use Rattle.receiver.specs.Record.{limitsRule, delayRule, restConsistent, consistent}
 use Rattle.receiver.specs.Packet.{packetRefusal, packetAfter, packetCall, handedBack}
 use Rattle.receiver.specs.Confirm.{confirmRefusal, confirmAfter, confirmCall}

@@ -9,7 +9,7 @@ use Rattle.receiver.specs.Record.{limitsRule, delayRule, pendingConsiste
 use Rattle.receiver.specs.Packet.{packetRefusal, pendingAfter, outOfOrder, gapReached, order, congestion, firstCause, causeAfter, packetAfter, packetCall}
 use Rattle.receiver.specs.Calls.{opened}
 use Rattle.receiver.specs.Write.{afterWrite, writeRefusal, writeAnswer}
-use Rattle.seen.specs.Ack.{rangesBelow, frame}
+use Rattle.ack.specs.Ack.{rangesBelow, frame}
 use Rattle.frames.specs.Ack.{gapsFrom, rangeNumbers}
 use Rattle.wire.specs.Numbers.{firstFrom, form, encode, encodeAll, allSmall}
 use Rattle.receiver.specs.Examples.{dues, Arrivals}

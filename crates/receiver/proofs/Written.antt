@@ -7,9 +7,9 @@ use mathlib.Core.Bool.{true, false}
 use mathlib.Core.List.{List}
 use lib.ListN.{length}
 use Rattle.seen.specs.declared.Micros.{Micros}
-use Rattle.seen.specs.declared.Acked.{Acked}
+use Rattle.ack.specs.declared.Acked.{Acked}
 use Rattle.seen.specs.Received.{seenConsistent}
-use Rattle.seen.specs.Ack.{ackRefusal, ackFrame, acked, ackAnswer, ackBytes}
+use Rattle.ack.specs.Ack.{ackRefusal, ackFrame, acked, ackAnswer, ackBytes}
 use Rattle.seen.proofs.Tests.{by-test}
 use Rattle.receiver.specs.declared.Receiver.{Receiver}
 use Rattle.receiver.specs.declared.Kind.{Kind}

@@ -8,8 +8,8 @@ use lib.ListN.{length, drop}
 use Rattle.seen.specs.declared.Micros.{Micros}
 use Rattle.seen.specs.Numbers.{small}
 use Rattle.seen.specs.Received.{reported}
-use Rattle.seen.specs.Ack.{ackDelay, frame, rangesKept}
-use Rattle.seen.specs.Emits.{Emits}
+use Rattle.ack.specs.Ack.{ackDelay, frame, rangesKept}
+use Rattle.ack.specs.Emits.{Emits}
 use Rattle.receiver.specs.declared.Receiver.{Receiver}
 use Rattle.receiver.specs.declared.Kind.{Kind}
 use Rattle.receiver.specs.Totals.{tailOf}

@@ -16,7 +16,7 @@ use Rattle.receiver.specs.declared.Mark.{Mark}
 use Rattle.receiver.specs.Totals.{isCe, totalsAfter}
 use Rattle.seen.specs.Numbers.{small}
 use Rattle.seen.specs.Received.{numberRefusal, seenAfter, firstMissing, isAny}
-use Rattle.seen.specs.Ack.{numberAt}
+use Rattle.ack.specs.Ack.{numberAt}
 use Rattle.receiver.specs.Record.{consistent}
 
 -- ---- refusals

@@ -4,7 +4,7 @@ use mathlib.Core.List.{List}
 use lib.ListN.{length}
 use Rattle.wire.specs.Bytes.{pick}
 use Rattle.seen.specs.declared.Micros.{Micros}
-use Rattle.seen.specs.Ack.{refusalAfter1, ackFrame, laid}
+use Rattle.ack.specs.Ack.{refusalAfter1, ackFrame, laid}
 use Rattle.receiver.specs.declared.Receiver.{Receiver}
 use Rattle.receiver.specs.declared.Wrote.{Wrote}
 use Rattle.receiver.specs.declared.Kind.{Kind}

@@ -50,7 +50,7 @@ impl Receiver {
         let seen = self.seen;
         let totals = self.totals;
         let tail = totals.said(kind);
-        let acked = seen.write_ack(time, tail, buf);
+        let acked = ack::write_ack(seen, time, tail, buf);
         if acked.result != 0 {
             return Wrote::refused(acked.result, self);
         }

@@ -1,12 +1,4 @@
 pub mod Tests
 pub mod Missing
 pub mod After
-pub mod Ranges
-pub mod Reported
-pub mod Fitting
-pub mod Storing
-pub mod Counts
-pub mod Written
-pub mod Maximal
-pub mod Emits
 pub mod Only

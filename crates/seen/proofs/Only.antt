@@ -1,8 +1,7 @@
--- Only one: two results that meet the contract of a public function, as its source states it, are equal, and so are the lent buffers that they leave.
+-- Only one: two results that meet the contract of a public function, as its source states it, are equal.
 -- Assumes nothing.
 use mathlib.Core.Path.{sym, _∙_}
-use denote.Ref.{now}
-use Rattle.wire.proofs.Only.{OneAnswer, OneBuffer}
+use Rattle.wire.proofs.Only.{OneAnswer}
 use Rattle.seen.proofs.numbers.is_small.Reads as is-small
 use Rattle.seen.proofs.numbers.is_small.Kinds as is-small-kinds
 use Rattle.seen.proofs.numbers.is_small_end.Reads as is-small-end
@@ -11,8 +10,12 @@ use Rattle.seen.proofs.numbers.minus_or_zero.Reads as minus-or-zero
 use Rattle.seen.proofs.numbers.minus_or_zero.Kinds as minus-or-zero-kinds
 use Rattle.seen.proofs.numbers.larger_of.Reads as larger-of
 use Rattle.seen.proofs.numbers.larger_of.Kinds as larger-of-kinds
+use Rattle.seen.proofs.Seen.numbers_obey.Reads as numbers-obey
+use Rattle.seen.proofs.Seen.numbers_obey.Kinds as numbers-obey-kinds
 use Rattle.seen.proofs.Seen.consistent.Reads as consistent
 use Rattle.seen.proofs.Seen.consistent.Kinds as consistent-kinds
+use Rattle.seen.proofs.Seen.floor.Reads as floor
+use Rattle.seen.proofs.Seen.floor.Kinds as floor-kinds
 use Rattle.seen.proofs.Seen.refusal.Reads as refusal
 use Rattle.seen.proofs.Seen.refusal.Kinds as refusal-kinds
 use Rattle.seen.proofs.Seen.with.Reads as marking
@@ -21,8 +24,6 @@ use Rattle.seen.proofs.Seen.confirm.Reads as confirming
 use Rattle.seen.proofs.Seen.confirm.Kinds as confirming-kinds
 use Rattle.seen.proofs.Seen.first_missing.Reads as first-missing
 use Rattle.seen.proofs.Seen.first_missing.Kinds as first-missing-kinds
-use Rattle.seen.proofs.Seen.write_ack.Reads as write-ack
-use Rattle.seen.proofs.Seen.write_ack.Kinds as write-ack-kinds
 
 pub is-small-one : OneAnswer 0 is-small-kinds.ps is-small-kinds.r is-small.Post
 is-small-one κs given x y s t p q = p ∙ sym q
@@ -36,8 +37,14 @@ minus-or-zero-one κs given x y s t p q = p ∙ sym q
 pub larger-of-one : OneAnswer 0 larger-of-kinds.ps larger-of-kinds.r larger-of.Post
 larger-of-one κs given x y s t p q = p ∙ sym q
 
+pub numbers-obey-one : OneAnswer 0 numbers-obey-kinds.ps numbers-obey-kinds.r numbers-obey.Post
+numbers-obey-one κs given x y s t p q = p ∙ sym q
+
 pub consistent-one : OneAnswer 0 consistent-kinds.ps consistent-kinds.r consistent.Post
 consistent-one κs given x y s t p q = p ∙ sym q
+
+pub floor-one : OneAnswer 0 floor-kinds.ps floor-kinds.r floor.Post
+floor-one κs given x y s t p q = p ∙ sym q
 
 pub refusal-one : OneAnswer 0 refusal-kinds.ps refusal-kinds.r refusal.Post
 refusal-one κs given x y s t p q = p ∙ sym q
@@ -50,6 +57,3 @@ confirming-one κs given x y s t p q = p ∙ sym q
 
 pub first-missing-one : OneAnswer 0 first-missing-kinds.ps first-missing-kinds.r first-missing.Post
 first-missing-one κs given x y s t p q = p ∙ sym q
-
-pub write-ack-one : OneBuffer 1 write-ack-kinds.ps write-ack-kinds.r (λ κs s. now (s .1 .1 .1 .0)) write-ack.Post
-write-ack-one κs given x y s t p q = (p .0 ∙ sym (q .0), p .1 ∙ sym (q .1))

@@ -1,5 +1,3 @@
--- What was received, and the ACK frame that says so.
+-- What was received.
 pub mod Numbers
 pub mod Received
-pub mod Ack
-pub mod Emits

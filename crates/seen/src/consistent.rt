@@ -5,7 +5,8 @@ use crate::Seen;
 use crate::numbers;
 
 impl Seen {
-    pub(crate) fn numbers_obey(self) -> bool
+    // Whether its numbers obey 5, and the floor is at most L.
+    pub fn numbers_obey(self) -> bool
         ensures { λ r. ⌜ r ≡ numbersObey self ⌝ }
     {
         if !numbers::is_small_end(self.end) {

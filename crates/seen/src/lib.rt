@@ -1,9 +1,8 @@
-// What was received: the largest number L, when it arrived, which numbers of the window were received, the floor below which none is reported, and the ACK frame that says so.
-// Carries of "The receiver record" of document 01 the window, refusals 6 and 7, the missing numbers and the frame that write emits (RFC 9000 section 19.3), and of document 02 the floor of No. 12 (RFC 9000 section 13.2.4).
+// What was received: the largest number L, when it arrived, which numbers of the window were received, and the floor below which none is reported.
+// Carries of "The receiver record" of document 01 the window, refusals 6 and 7 and the missing numbers, and of document 02 the floor of No. 12 (RFC 9000 section 13.2.4).
 // Every public function takes any record, any number and any time.
 use window::Window;
 
-mod ack;
 mod consistent;
 mod marks;
 pub mod numbers;
@@ -23,12 +22,4 @@ pub struct Seen {
     pub arrived: Micros,
     // This is the record's own floor (02, No. 12): numbers below it were confirmed by the sender and are reported no more.
     pub confirmed: u64,
-}
-
-// What writing an ACK frame answers.
-pub struct Acked {
-    // This is 0 where the frame was written, and else the paper's refusal number.
-    pub result: u64,
-    // The frame takes so many bytes at the start of the lent buffer, 0 where it was refused.
-    pub length: u64,
 }

@@ -3,7 +3,7 @@ ghost use mathlib.Core.Path.{_≡_};
 ghost use Prim.Native.Nat.{_-_, _≤_};
 ghost use Rattle.wire.specs.Bytes.{pick};
 ghost use Rattle.seen.specs.Numbers.{small};
-ghost use Rattle.seen.specs.Received.{floor, placeOf, numberRefusal, seenAfter, confirmedAfter, reported, firstMissing};
+ghost use Rattle.seen.specs.Received.{floor, placeOf, numberRefusal, seenAfter, confirmedAfter, firstMissing};
 use crate::Micros;
 use crate::Seen;
 use crate::numbers;
@@ -19,7 +19,7 @@ fn place_of(end: u64, number: u64) -> u64
 
 impl Seen {
     // The smallest number that is still looked at: of the window, and from the record's own floor on.
-    fn floor(self) -> u64
+    pub fn floor(self) -> u64
         ensures { λ r. ⌜ r ≡ floor self ⌝ }
     {
         let lowest = numbers::minus_or_zero(self.end, window::PLACES);
@@ -87,23 +87,6 @@ impl Seen {
         let mut next = self;
         next.confirmed = numbers::larger_of(self.confirmed, risen);
         next
-    }
-
-    // What is reported: the marks from the floor up.
-    pub(crate) fn reported(self) -> Seen
-        requires { ⌜ floor self ≤ self .end ⌝ }
-        ensures { λ r. ⌜ r ≡ reported self ⌝ }
-    {
-        let end = self.end;
-        let window = self.window;
-        let next = window.cleared_below(place_of(end, self.floor()));
-        let arrived = self.arrived;
-        Seen {
-            window: next,
-            end,
-            arrived,
-            confirmed: self.confirmed,
-        }
     }
 
     // The place of the first missing number of the window from `from` up to below `to`.

@@ -9,7 +9,7 @@ use Rattle.seen.specs.Numbers.{small}
 use Rattle.receiver.specs.Record.{consistent, delayRule}
 use Rattle.receiver.specs.Calls.{thresholdCall, thresholdVerdict, agreedAfter}
 use Rattle.seen.proofs.Tests.{failed, held}
-use Rattle.seen.proofs.Ranges.{both}
+use Rattle.ack.proofs.Ranges.{both}
 use borrow.Author.Needs.{needs}
 use Rattle.receiver.proofs.Receiver.threshold.Statement.{statement}
 use Rattle.receiver.proofs.Receiver.threshold.Tie as tie

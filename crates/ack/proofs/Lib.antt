@@ -1,0 +1,9 @@
+pub mod Ranges
+pub mod Reporting
+pub mod Fitting
+pub mod Storing
+pub mod Counts
+pub mod Written
+pub mod Maximal
+pub mod Emits
+pub mod Only

@@ -1,0 +1,3 @@
+-- The ACK frame of what was received.
+pub mod Ack
+pub mod Emits

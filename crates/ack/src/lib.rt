@@ -1,0 +1,267 @@
+// The ACK frame of what was received: as many newest ranges of the window as fit the lent buffer, and its counts (02, No. 2).
+// Carries of "The receiver record" of document 01 the frame that write emits (RFC 9000 section 19.3).
+// The public function takes any record, any time and any bytes.
+ghost use mathlib.Core.Path.{_≡_};
+ghost use mathlib.Core.Bool.{true, false};
+ghost use Prim.Native.Nat.{_+_, _-_, _^_, _≤_, _<_};
+ghost use lib.ListN.{length};
+ghost use Rattle.wire.specs.Numbers.{limit, encodeAll, allSmall};
+ghost use Rattle.frames.specs.Ack.{typeOf, countsOf};
+ghost use Rattle.frames.specs.declared.Tail.the-variants.{Nothing};
+ghost use Rattle.wire.specs.Bytes.{splice};
+ghost use Rattle.window.specs.Window.{places, valueOf, lentValue, runBelow};
+ghost use Rattle.seen.specs.Numbers.{small};
+ghost use Rattle.seen.specs.Received.{floor, marksFit, seenConsistent, reported};
+ghost use Rattle.ack.specs.Ack.{numberOfRanges, body, rangesKept, marksAnswer, marksBytes, ackAnswer, ackBytes};
+use frames::Tail;
+use seen::Micros;
+use seen::Seen;
+use seen::numbers;
+use wire::Put;
+
+// What writing an ACK frame answers.
+pub struct Acked {
+    // This is 0 where the frame was written, and else the paper's refusal number.
+    pub result: u64,
+    // The frame takes so many bytes at the start of the lent buffer, 0 where it was refused.
+    pub length: u64,
+}
+
+impl Acked {
+    // A refusal's number: no byte was written.
+    fn refused(result: u64) -> Acked
+        ensures { λ r. ⌜ r ≡ record { result = result; length = 0 } ⌝ }
+    {
+        Acked { result, length: 0 }
+    }
+}
+
+// A range by its size, and by how many numbers are missing between it and the place above; of size 0 where there is none.
+struct Range {
+    missing: u64,
+    size: u64,
+}
+
+// The newest range below a place of a window's words.
+fn range_below(words: &[u64; 16], place: u64) -> Range
+    ensures { λ r. ⌜ (r .missing ≡ runBelow false place (lentValue (now (words .entry)))) × (r .size ≡ runBelow true (place - runBelow false place (lentValue (now (words .entry)))) (lentValue (now (words .entry)))) ⌝ }
+{
+    let missing = window::run_below(words, place, false);
+    let size = window::run_below(words, place - missing, true);
+    Range { missing, size }
+}
+
+// Whether the marks of a window's words fit the end of L, told by the runs that a frame is made of.
+fn runs_fit(words: &[u64; 16], end: u64) -> bool
+    ensures { λ r. ⌜ r ≡ marksFit (lentValue (now (words .entry))) end ⌝ }
+{
+    let below = numbers::minus_or_zero(window::PLACES, end);
+    if window::run_below(words, below, false) != below {
+        return false;
+    }
+    if end == 0 {
+        return true;
+    }
+    window::run_below(words, window::PLACES, false) == 0
+}
+
+// The type of a frame with that tail (RFC 9000 19.3).
+fn type_of(tail: Tail) -> u64
+    ensures { λ r. ⌜ r ≡ typeOf tail ⌝ }
+{
+    match tail {
+        Tail::Nothing => 2,
+        Tail::Counts {
+            ect0: _,
+            ect1: _,
+            ce: _,
+        } => 3,
+    }
+}
+
+// Whether a tail's counts obey 5.
+fn counts_obey(tail: Tail) -> bool
+    ensures { λ r. ⌜ r ≡ allSmall (countsOf tail) ⌝ }
+{
+    match tail {
+        Tail::Nothing => true,
+        Tail::Counts { ect0, ect1, ce } => {
+            if !numbers::is_small(ect0) {
+                return false;
+            }
+            if !numbers::is_small(ect1) {
+                return false;
+            }
+            numbers::is_small(ce)
+        }
+    }
+}
+
+// The room of which a tail's counts leave so much for what comes before them.
+fn room_before(tail: Tail, room: usize) -> usize
+    requires { ⌜ allSmall (countsOf tail) ≡ true ⌝ }
+    ensures { λ r. ⌜ r ≡ room - length (encodeAll (countsOf tail)) ⌝ }
+{
+    match tail {
+        Tail::Nothing => room,
+        Tail::Counts { ect0, ect1, ce } => {
+            let bytes = wire::width(ect0) + wire::width(ect1) + wire::width(ce);
+            if room < bytes {
+                return 0;
+            }
+            room - bytes
+        }
+    }
+}
+
+// Writes a tail's counts at a place, and answers the place after them.
+fn put_counts(tail: Tail, at: usize, buf: &mut [u8]) -> usize
+    requires { ⌜ (allSmall (countsOf tail) ≡ true) × (at + length (encodeAll (countsOf tail)) ≤ length (now buf)) ⌝ }
+    ensures { λ r. ⌜ (r ≡ at + length (encodeAll (countsOf tail))) × (now (buf .exit) ≡ splice (now (buf .entry)) at (encodeAll (countsOf tail))) ⌝ }
+{
+    match tail {
+        Tail::Nothing => at,
+        Tail::Counts { ect0, ect1, ce } => {
+            // ECT(0), ECT(1), CE (RFC 9000 19.3.2).
+            let counts = [ect0, ect1, ce];
+            let Put::Done { next } = wire::put_numbers(buf, at, &counts) else {
+                return 0;
+            };
+            next
+        }
+    }
+}
+
+// Whether what was received is consistent, told by runs: the words are lent, and not copied as `consistent` would have to.
+fn consistent_by_runs(seen: Seen) -> bool
+    ensures { λ r. ⌜ r ≡ seenConsistent seen ⌝ }
+{
+    if !seen.numbers_obey() {
+        return false;
+    }
+    runs_fit(&seen.window.words, seen.end)
+}
+
+// How many numbers the newest range has: it ends with L, whose place is the last.
+fn first_size(seen: Seen) -> u64
+    ensures { λ r. ⌜ r ≡ runBelow true places (valueOf (seen .window)) ⌝ }
+{
+    window::run_below(&seen.window.words, window::PLACES, true)
+}
+
+// How many of the newest ranges fit the room: 0 where not even the first does, which has `first` numbers.
+fn ranges_kept(seen: Seen, first: u64, delay: u64, room: usize) -> u64
+    requires { ⌜ (seenConsistent seen ≡ true) × (0 < seen .end) × (delay ≤ limit) × (room < 2 ^ 63) × (first ≡ runBelow true places (valueOf (seen .window))) ⌝ }
+    ensures { λ r. ⌜ r ≡ rangesKept seen Nothing delay room ⌝ }
+{
+    // No place below that of number 0 is marked.
+    let none_below = numbers::minus_or_zero(window::PLACES, seen.end);
+    // The bytes of the frame so far, without its range count.
+    let mut bytes = 1 + wire::width(seen.end - 1) + wire::width(delay) + wire::width(first - 1);
+    if room < bytes + 1 {
+        return 0;
+    }
+    let mut count: u64 = 1;
+    let mut low = window::PLACES - first;
+    while none_below < low {
+        let range = range_below(&seen.window.words, low);
+        if range.size == 0 {
+            return count;
+        }
+        bytes = bytes + wire::width(range.missing - 1) + wire::width(range.size - 1);
+        // The range count, now of `count` ranges after the first, may take a byte more.
+        if room < bytes + wire::width(count) {
+            return count;
+        }
+        count += 1;
+        low = low - range.missing - range.size;
+    }
+    count
+}
+
+// Writes the frame with the count newest ranges up to its counts, and answers the place after them.
+fn store(seen: Seen, kind: u64, first: u64, delay: u64, count: u64, buf: &mut [u8]) -> usize
+    requires { ⌜ (seenConsistent seen ≡ true) × (0 < seen .end) × (delay ≤ limit) × (0 < count) × (count ≤ numberOfRanges seen) × (length (body seen kind delay count) ≤ length (now buf)) × (first ≡ runBelow true places (valueOf (seen .window))) × (kind ≤ limit) ⌝ }
+    ensures { λ r. ⌜ (r ≡ length (body seen kind delay count)) × (now (buf .exit) ≡ splice (now (buf .entry)) 0 (body seen kind delay count)) ⌝ }
+{
+    // Type, largest, delay, range count, first range (RFC 9000 19.3).
+    let fields = [kind, seen.end - 1, delay, count - 1, first - 1];
+    let Put::Done { next } = wire::put_numbers(buf, 0, &fields) else {
+        return 0;
+    };
+    let mut at = next;
+    let mut low = window::PLACES - first;
+    let mut left = count - 1;
+    while 0 < left {
+        let range = range_below(&seen.window.words, low);
+        // Gap and length, each one less than what it counts.
+        let pair = [range.missing - 1, range.size - 1];
+        let Put::Done { next: after } = wire::put_numbers(buf, at, &pair) else {
+            return 0;
+        };
+        at = after;
+        low = low - range.missing - range.size;
+        left -= 1;
+    }
+    at
+}
+
+// Writes the ACK frame of all its marks, as many newest ranges as fit; 9 where not even the first does.
+fn write_marks(seen: Seen, time: Micros, tail: Tail, buf: &mut [u8]) -> Acked
+    requires { ⌜ (seenConsistent seen ≡ true) × (0 < seen .end) × (small (time .0) ≡ true) × (allSmall (countsOf tail) ≡ true) ⌝ }
+    ensures { λ r. ⌜ (r ≡ marksAnswer seen time tail (now (buf .entry))) × (now (buf .exit) ≡ marksBytes seen time tail (now (buf .entry))) ⌝ }
+{
+    let delay = numbers::minus_or_zero(time.0, seen.arrived.0) / 8;
+    let first = first_size(seen);
+    let room = room_before(tail, buf.len());
+    let count = ranges_kept(seen, first, delay, room);
+    if count == 0 {
+        return Acked::refused(9);
+    }
+    let end = store(seen, type_of(tail), first, delay, count, buf);
+    let length = put_counts(tail, end, buf);
+    Acked {
+        result: 0,
+        length: length as u64,
+    }
+}
+
+// What is reported: the marks from the floor up.
+fn reported(seen: Seen) -> Seen
+    requires { ⌜ floor seen ≤ seen .end ⌝ }
+    ensures { λ r. ⌜ r ≡ reported seen ⌝ }
+{
+    let end = seen.end;
+    let window = seen.window;
+    let next = window.cleared_below(numbers::minus_or_zero(window::PLACES, end - seen.floor()));
+    let arrived = seen.arrived;
+    Seen {
+        window: next,
+        end,
+        arrived,
+        confirmed: seen.confirmed,
+    }
+}
+
+// Writes an ACK frame with that tail at the start of buf. Due or not, it is allowed once something was received.
+pub fn write_ack(seen: Seen, time: Micros, tail: Tail, buf: &mut [u8]) -> Acked
+    ensures { λ r. ⌜ (r ≡ ackAnswer seen time tail (now (buf .entry))) × (now (buf .exit) ≡ ackBytes seen time tail (now (buf .entry))) ⌝ }
+{
+    if !consistent_by_runs(seen) {
+        return Acked::refused(1);
+    }
+    if !numbers::is_small(time.0) {
+        return Acked::refused(5);
+    }
+    if !counts_obey(tail) {
+        return Acked::refused(5);
+    }
+    if seen.end == 0 {
+        return Acked::refused(8);
+    }
+    // Where the window's own floor is the larger, every mark is reported, and the window is not copied.
+    if seen.confirmed <= numbers::minus_or_zero(seen.end, window::PLACES) {
+        return write_marks(seen, time, tail, buf);
+    }
+    write_marks(reported(seen), time, tail, buf)
+}
