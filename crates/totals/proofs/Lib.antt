@@ -3,10 +3,6 @@ pub mod Counting
 pub mod Bringing
 pub mod Stepping
 pub mod Pasting
-pub mod Laid
-pub mod Printing
 pub mod Summing
 pub mod Numbers
-pub mod Cutting
 pub mod Only
-pub mod Settled

@@ -16,7 +16,7 @@ use Rattle.wire.specs.Exactly.{OneOf}
 use Rattle.report.specs.Reader.{readReport}
 use Rattle.report.proofs.Exactly.{report-reads}
 use Rattle.totals.specs.Totals.{longest, tooLong, numberOf}
-use Rattle.totals.specs.Pieces.{NumbersHavePlaces}
+use Rattle.totals.specs.Sums.{NumbersHavePlaces}
 use Rattle.totals.proofs.Summing.{number-long, number-read}
 
 -- none of the numbers is above 20

@@ -11,8 +11,6 @@ use Rattle.totals.proofs.Standing.piece.Reads as piece
 use Rattle.totals.proofs.Standing.piece.Kinds as piece-kinds
 use Rattle.totals.proofs.files.keep_rest.Reads as keep-rest
 use Rattle.totals.proofs.files.keep_rest.Kinds as keep-rest-kinds
-use Rattle.totals.proofs.page.put_page.Reads as put-page
-use Rattle.totals.proofs.page.put_page.Kinds as put-page-kinds
 
 pub add-one : OneAnswer 1 add-kinds.ps add-kinds.r add.Post
 add-one κs given x y s t p q = p ∙ sym q
@@ -25,6 +23,3 @@ piece-one κs given x y s t p q = p .0 ∙ sym (q .0)
 
 pub keep-rest-one : OneBuffer 1 keep-rest-kinds.ps keep-rest-kinds.r (λ κs s. now (s .0)) keep-rest.Post
 keep-rest-one κs given x y s t p q = (refl, p ∙ sym q)
-
-pub put-page-one : OneBuffer 1 put-page-kinds.ps put-page-kinds.r (λ κs s. now (s .0)) put-page.Post
-put-page-one κs given x y s t p q = (p .0 ∙ sym (q .0), p .1 ∙ sym (q .1))

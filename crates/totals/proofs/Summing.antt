@@ -19,7 +19,7 @@ use Rattle.totals.specs.declared.Brought.{Brought}
 use Rattle.totals.specs.Totals.{longest, tooLong, numberOf, accepted, one, howMany, summed, statusCount, places, partIn, sumAt, most, kept, mark, listed, totalsOf}
 use Rattle.totals.specs.Adding.{refusedBrings, acceptedBrings, brings, share, sumWith, markWith, with, added}
 use Rattle.totals.specs.Files.{start}
-use Rattle.totals.specs.Pieces.{addedAll, AddsUp}
+use Rattle.totals.specs.Sums.{addedAll, AddsUp}
 use Rattle.totals.proofs.Listed.{listed-same, getD-listed}
 
 -- ---- sums over a list with one report more

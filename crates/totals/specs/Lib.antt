@@ -1,6 +1,4 @@
 pub mod Totals
 pub mod Adding
 pub mod Files
-pub mod Page
-pub mod Pieces
-pub mod Settled
+pub mod Sums

@@ -1,24 +1,22 @@
-// The week's totals: what a file of reports comes to, and the page that says so.
-// Carries document 02, No. 13, all that stands between input and output; the program `week` reads and prints.
+// The week's totals: what a file of reports comes to.
+// Carries document 02, No. 13, all that stands between input and page; crate page has the page, and the program `week` reads and prints.
 // Every public function takes any bytes and any totals.
 mod adding;
 mod files;
-mod page;
 
 pub use files::keep_rest;
-pub use page::put_page;
 
 // What is counted, each in its place: 0 reports accepted, 1 to 20 reports refused with that number, then the four
 // summary totals, then the entries of each status.
-const PLACES: usize = 29;
+pub const PLACES: usize = 29;
 
-const AT_TOTAL: usize = 21;
+pub const AT_TOTAL: usize = 21;
 
-const AT_RECEIVED: usize = 22;
+pub const AT_RECEIVED: usize = 22;
 
-const AT_LATE: usize = 23;
+pub const AT_LATE: usize = 23;
 
-const AT_LOST: usize = 24;
+pub const AT_LOST: usize = 24;
 
 // The entries with status 0; the other statuses follow.
 const AT_ENTRIES: usize = 25;

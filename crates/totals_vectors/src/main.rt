@@ -9,7 +9,7 @@ use wire::Put;
 // Prints the page of the totals, where so many bytes of the file are left.
 fn show(totals: Totals, left: usize, output: &mut [u8]) {
     let standing = Standing { totals, skip: 0 };
-    let Put::Done { next } = totals::put_page(output, standing, left) else {
+    let Put::Done { next } = page::put_page(output, standing, left) else {
         return;
     };
     io::write_all(STDOUT_FILENO, &output[..next]);

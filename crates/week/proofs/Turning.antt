@@ -10,9 +10,9 @@ use lib.Seq.{take-at, take-nil, take-append-add}
 use Rattle.totals.specs.declared.Standing.{Standing}
 use Rattle.totals.specs.declared.Taken.{Taken}
 use Rattle.totals.specs.Files.{start, taken, moved}
-use Rattle.totals.specs.Page.{printed}
-use Rattle.totals.proofs.Cutting.{page-in-pieces}
-use Rattle.totals.specs.Pieces as pieces
+use Rattle.page.specs.Page.{printed}
+use Rattle.page.proofs.Cutting.{page-in-pieces}
+use Rattle.page.specs.Pieces as pieces
 use Rattle.week.specs.declared.Place.{Place}
 use Rattle.week.specs.Turn.{standing, Turned, Reached, HasRead}
 

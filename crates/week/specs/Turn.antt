@@ -3,8 +3,8 @@ use Prim.Native.Nat.{ℕ, _≤_}
 use mathlib.Core.Path.{_≡_}
 use mathlib.Core.List.{List}
 use lib.ListN.{length, take}
-use Rattle.totals.specs.Page.{page, printed}
-use Rattle.totals.specs.Pieces as pieces
+use Rattle.page.specs.Page.{page, printed}
+use Rattle.page.specs.Pieces as pieces
 use Rattle.week.specs.declared.Place.{Place}
 
 -- where the program stands, with what is left at the start of its buffer

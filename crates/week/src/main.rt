@@ -3,7 +3,7 @@
 ghost use mathlib.Core.Path.{_≡_};
 ghost use Prim.Native.Nat.{_≤_};
 ghost use lib.ListN.{length};
-ghost use Rattle.totals.specs.Page.{pageWritten};
+ghost use Rattle.page.specs.Page.{pageWritten};
 ghost use Rattle.week.specs.Turn.{Turned, HasRead};
 use libc::STDIN_FILENO;
 use libc::STDOUT_FILENO;
@@ -51,7 +51,7 @@ fn print(place: Place, output: &mut [u8])
     ensures { λ r. ⌜ now (output .exit) ≡ pageWritten (place .standing) (place .left) (now (output .entry)) ⌝ }
 {
     let standing = place.standing;
-    let Put::Done { next } = totals::put_page(output, standing, place.left) else {
+    let Put::Done { next } = page::put_page(output, standing, place.left) else {
         return;
     };
     io::write_all(STDOUT_FILENO, &output[..next]);

@@ -5,7 +5,7 @@ use mathlib.Core.Path.{sym}
 use native.Mathlib.Omega.{arith}
 use lib.ListN.{length}
 use lib.Seq.{length-take-le}
-use Rattle.totals.proofs.Printing.{page-within}
+use Rattle.page.proofs.Printing.{page-within}
 use borrow.Author.Needs.{needs}
 use Rattle.totals_vectors.proofs.show.Statement.{statement}
 use Rattle.totals_vectors.proofs.show.Tie as tie

@@ -5,7 +5,7 @@ use mathlib.Core.Path.{sym}
 use native.Mathlib.Omega.{arith}
 use lib.ListN.{length}
 use lib.Seq.{length-take-le}
-use Rattle.totals.proofs.Printing.{page-within}
+use Rattle.page.proofs.Printing.{page-within}
 use borrow.Author.Needs.{needs}
 use Rattle.week.proofs.print.Statement.{statement}
 use Rattle.week.proofs.print.Tie as tie

@@ -11,8 +11,8 @@ use Rattle.wire.specs.Bytes.{splice}
 use Rattle.decimal.specs.Decimal.{placesOf, lastDigits, decimal}
 use Rattle.wire.proofs.Bytes.{splice-splice}
 use Rattle.decimal.proofs.Decimal.{length-decimal, all-digits, places-most}
 use Rattle.totals.specs.Totals.{places}
-use Rattle.totals.specs.Page.{refusedText, nameOf}
+use Rattle.page.specs.Page.{refusedText, nameOf}
 
 -- ys is what the callee left of the part that it was lent
 pub number-laid : (xs ys : List ℕ) (at digits n : ℕ) → digits ≡ placesOf n → at + digits ≤ length xs

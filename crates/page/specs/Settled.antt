@@ -3,8 +3,8 @@ use Prim.Native.Nat.{ℕ, _+_}
 use mathlib.Core.Path.{_≡_}
 use mathlib.Core.List.{List, [], _∷_, _++_}
 use lib.ListN.{length}
 use Rattle.totals.specs.Totals.{most, kept, mark}
-use Rattle.totals.specs.Page.{acceptedText, refusedText, totalText, receivedText, lateText, lostText, entriesText, notText, partialText, lineEnd, early, page}
+use Rattle.page.specs.Page.{acceptedText, refusedText, totalText, receivedText, lateText, lostText, entriesText, notText, partialText, lineEnd, early, page}
 
 -- a number of one digit, and the line's end
 abbrev pub ends : ℕ → List ℕ

@@ -3,11 +3,11 @@
 use mathlib.Core.Path.{ap}
 use native.Mathlib.Omega.{arith}
 use Rattle.wire.specs.declared.Put.the-variants.{Done}
-use Rattle.totals.specs.Page.{lines, early}
-use Rattle.totals.proofs.Printing.{printed-skipping, printed-left, printed-whole, page-no, page-yes}
+use Rattle.page.specs.Page.{lines, early}
+use Rattle.page.proofs.Printing.{printed-skipping, printed-left, printed-whole, page-no, page-yes}
 use borrow.Author.Needs.{needs}
-use Rattle.totals.proofs.page.put_page.Statement.{statement}
-use Rattle.totals.proofs.page.put_page.Tie as tie
+use Rattle.page.proofs.put_page.Statement.{statement}
+use Rattle.page.proofs.put_page.Tie as tie
 
 mul-if1 : tie.Need-mul-if1
 mul-if1 c = search needs

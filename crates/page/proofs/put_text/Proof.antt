@@ -5,9 +5,9 @@ use mathlib.Core.Path.{_≡_}
 use native.Mathlib.Omega.{arith}
 use lib.ListN.{length}
 use lib.Seq.{paste, paste-zero}
 use Rattle.totals.proofs.Pasting.{pasting-long, pasting-next, pasting-done}
-use Rattle.totals.proofs.page.put_text.Statement.{statement}
-use Rattle.totals.proofs.page.put_text.Tie as tie
+use Rattle.page.proofs.put_text.Statement.{statement}
+use Rattle.page.proofs.put_text.Tie as tie
 
 abbrev Inv-loop : tie.InvT-loop
 Inv-loop buf₀ at text i₀ buf i = (i ≤ length text) × (buf ≡ paste buf₀ at text i)

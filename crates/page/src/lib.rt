@@ -1,18 +1,20 @@
-// The page: a line for each sum, or the refusal of a file that ends early.
+// The page of a week's totals: a line for each sum, or the refusal of a file that ends early.
+// Carries of document 02, No. 13, what is printed; the program `week` prints it.
+// The public function takes any totals and any bytes.
 ghost use mathlib.Core.Path.{_≡_};
 ghost use Prim.Native.Nat.{_+_, _≤_, _<_};
 ghost use lib.ListN.{length};
 ghost use Rattle.wire.specs.Bytes.{splice};
 ghost use Rattle.decimal.specs.Decimal.{decimal};
 ghost use Rattle.totals.specs.Totals.{places};
-ghost use Rattle.totals.specs.Page.{nameOf, line, isShown, lines, early, longestLine, longestPage, pagePlaced, pageWritten};
-use crate::AT_LATE;
-use crate::AT_LOST;
-use crate::AT_RECEIVED;
-use crate::AT_TOTAL;
-use crate::PLACES;
-use crate::Standing;
-use crate::Totals;
+ghost use Rattle.page.specs.Page.{nameOf, line, isShown, lines, early, longestLine, longestPage, pagePlaced, pageWritten};
+use totals::AT_LATE;
+use totals::AT_LOST;
+use totals::AT_RECEIVED;
+use totals::AT_TOTAL;
+use totals::PLACES;
+use totals::Standing;
+use totals::Totals;
 use wire::Put;
 
 // How many bytes a line takes at most: `entries not received `, twenty digits, and ` full` with the line's end.

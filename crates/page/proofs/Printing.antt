@@ -15,10 +15,10 @@ use Rattle.wire.specs.declared.Put.{Put}
 use Rattle.wire.specs.declared.Put.the-variants.{Done, NoRoom}
 use Rattle.wire.proofs.Bytes.{splice-splice}
 use Rattle.wire.proofs.Writing.{placed-yes}
 use Rattle.totals.specs.declared.Totals.{Totals}
 use Rattle.totals.specs.declared.Standing.{Standing}
 use Rattle.totals.specs.Totals.{places}
-use Rattle.totals.specs.Page.{line, isShown, shown, linesFrom, lines, early, printed, longestLine, longestPage, pagePlaced, pageWritten}
+use Rattle.page.specs.Page.{line, isShown, shown, linesFrom, lines, early, printed, longestLine, longestPage, pagePlaced, pageWritten}
 
 module _ (t : Totals) (i : ℕ) where
   lines-next : i < places → linesFrom (places - i) i t ≡ shown t i ++ linesFrom (places - (i + 1)) (i + 1) t

@@ -1,9 +1,9 @@
 -- `totals::is_shown` meets its contract: each branch is one test of the definition.
 -- Assumes nothing.
 use borrow.Author.Tests.{eq-eqb, ne-eqb, le-leb, lt-leb}
-use Rattle.totals.specs.Page.{isShown}
-use Rattle.totals.proofs.page.is_shown.Statement.{statement}
-use Rattle.totals.proofs.page.is_shown.Tie as tie
+use Rattle.page.specs.Page.{isShown}
+use Rattle.page.proofs.is_shown.Statement.{statement}
+use Rattle.page.proofs.is_shown.Tie as tie
 
 returns : tie.Need-returns
 unfolding isShown

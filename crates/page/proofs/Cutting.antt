@@ -12,17 +12,18 @@ use lib.Dec.{leb}
 use lib.ListN.{length, take, drop, length-append, length-take, length-drop}
 use lib.Seq.{drop-drop, take-append-le, drop-append-le}
 use Rattle.wire.specs.Bytes.{pick}
 use Rattle.totals.specs.declared.Totals.{Totals}
 use Rattle.totals.specs.declared.Standing.{Standing}
 use Rattle.totals.specs.declared.Taken.{Taken}
 use Rattle.totals.specs.Totals.{longest, tooLong, totalsOf}
 use Rattle.totals.specs.Adding.{brings, with, added}
 use Rattle.totals.specs.Files.{lengthSize, lengthAt, reportAt, behind, Cut, Reports, EndsEarly, before, cutFrom, cut, start, withLong, nothing, stepOf, takenFrom, taken}
-use Rattle.totals.specs.Page.{lines, early, page, pageOf, printed}
-use Rattle.totals.specs.Pieces.{addedAll, Place, turn, turns, opened, file, PageInPieces}
+use Rattle.page.specs.Page.{lines, early, page, pageOf, printed}
+use Rattle.totals.specs.Sums.{addedAll}
+use Rattle.page.specs.Pieces.{Place, turn, turns, opened, file, PageInPieces}
 use Rattle.totals.proofs.Summing.{brings-long, adds-up}
-use Rattle.totals.proofs.Printing.{printed-skipping, printed-left, printed-whole}
+use Rattle.page.proofs.Printing.{printed-skipping, printed-left, printed-whole}
 use Rattle.totals.proofs.Stepping.{step-skip, step-ends, step-long, step-part, step-whole, step-within, step-empty, taken-stop, taken-more}
 
 -- ---- the reports of a file
 

@@ -3,11 +3,11 @@
 use mathlib.Core.List.{[], _∷_}
 use native.Mathlib.Omega.{arith}
 use Rattle.decimal.specs.Decimal.{decimal}
-use Rattle.totals.specs.Page.{refusedText, nameOf}
-use Rattle.totals.proofs.Laid.{laid-three, length-three, name-refused, place-digits}
+use Rattle.page.specs.Page.{refusedText, nameOf}
+use Rattle.page.proofs.Laid.{laid-three, length-three, name-refused, place-digits}
 use borrow.Author.Needs.{needs}
-use Rattle.totals.proofs.page.put_name.Statement.{statement}
-use Rattle.totals.proofs.page.put_name.Tie as tie
+use Rattle.page.proofs.put_name.Statement.{statement}
+use Rattle.page.proofs.put_name.Tie as tie
 
 slice-aggregate-put-text : tie.Need-slice-aggregate-put-text
 slice-aggregate-put-text c = search needs

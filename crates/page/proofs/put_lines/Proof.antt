@@ -5,10 +5,10 @@ use mathlib.Core.Path.{sym, _∙_}
 use mathlib.Core.Logic.{⊎-elim}
 use native.Mathlib.Omega.{arith}
 use borrow.Author.Needs.{needs}
 use Rattle.totals.specs.Totals.{places}
-use Rattle.totals.proofs.Printing.{Printing, begun, passed, written-on, ended-used, ended-bytes, ended-room}
-use Rattle.totals.proofs.page.put_lines.Statement.{statement}
-use Rattle.totals.proofs.page.put_lines.Tie as tie
+use Rattle.page.proofs.Printing.{Printing, begun, passed, written-on, ended-used, ended-bytes, ended-room}
+use Rattle.page.proofs.put_lines.Statement.{statement}
+use Rattle.page.proofs.put_lines.Tie as tie
 
 abbrev Inv-loop : tie.InvT-loop
 Inv-loop buf₀ sums full at₀ i₀ buf at i = Printing (record { sums = sums; full = full }) buf₀ buf at i

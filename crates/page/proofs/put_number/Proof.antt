@@ -2,10 +2,10 @@
 -- Assumes nothing.
 use native.Mathlib.Omega.{arith}
 use Rattle.decimal.proofs.Decimal.{length-decimal}
-use Rattle.totals.proofs.Laid.{number-laid}
+use Rattle.page.proofs.Laid.{number-laid}
 use borrow.Author.Needs.{needs}
-use Rattle.totals.proofs.page.put_number.Statement.{statement}
-use Rattle.totals.proofs.page.put_number.Tie as tie
+use Rattle.page.proofs.put_number.Statement.{statement}
+use Rattle.page.proofs.put_number.Tie as tie
 
 places-requires : tie.Need-places-requires
 places-requires c κs = search needs

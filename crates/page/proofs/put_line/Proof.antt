@@ -4,11 +4,11 @@ use mathlib.Core.List.{[], _∷_, _++_}
 use native.Mathlib.Omega.{arith}
 use borrow.Author.Tests.{eq-eqb, ne-eqb}
 use Rattle.decimal.specs.Decimal.{decimal}
-use Rattle.totals.specs.Page.{fullText, lineEnd, nameOf, line}
-use Rattle.totals.proofs.Laid.{laid-three, length-three}
+use Rattle.page.specs.Page.{fullText, lineEnd, nameOf, line}
+use Rattle.page.proofs.Laid.{laid-three, length-three}
 use borrow.Author.Needs.{needs}
-use Rattle.totals.proofs.page.put_line.Statement.{statement}
-use Rattle.totals.proofs.page.put_line.Tie as tie
+use Rattle.page.proofs.put_line.Statement.{statement}
+use Rattle.page.proofs.put_line.Tie as tie
 
 put-name-requires : tie.Need-put-name-requires
 put-name-requires c κs = search needs

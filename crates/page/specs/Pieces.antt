@@ -1,31 +1,11 @@
 -- A file is read piece by piece: however it is cut, the page is that of the whole file.
-use Prim.Native.Nat.{ℕ, _≤_}
+use Prim.Native.Nat.{ℕ}
 use mathlib.Core.Path.{_≡_}
 use mathlib.Core.List.{List, [], _∷_, _++_}
 use lib.ListN.{length, drop}
-use Rattle.totals.specs.declared.Totals.{Totals}
 use Rattle.totals.specs.declared.Standing.{Standing}
-use Rattle.totals.specs.Totals.{tooLong, numberOf, totalsOf}
-use Rattle.totals.specs.Adding.{added}
 use Rattle.totals.specs.Files.{start, taken}
-use Rattle.totals.specs.Page.{page, printed}
-
--- ---- the totals of a list of reports
-
--- one report after the other
-abbrev pub addedAll : Totals → List (List ℕ) → Totals
-addedAll t [] = t
-addedAll t (r ∷ rs) = addedAll (added t r) rs
-
--- the totals that the calls of `add` come to are "defined over the list of accepted reports"
-abbrev pub AddsUp : Type 0
-AddsUp = (rs : List (List ℕ)) → addedAll (start .totals) rs ≡ totalsOf rs
-
--- "reports refused for each number that occurs": no number occurs that has no place
-abbrev pub NumbersHavePlaces : Type 0
-NumbersHavePlaces = (r : List ℕ) → numberOf r ≤ tooLong
-
--- ---- the pieces
+use Rattle.page.specs.Page.{page, printed}
 
 -- where the program stands between two pieces, and the bytes that are left of the last one
 pub record Place : Type 0 where

@@ -1,0 +1,5 @@
+pub mod Laid
+pub mod Printing
+pub mod Cutting
+pub mod Only
+pub mod Settled
