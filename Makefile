@@ -139,7 +139,7 @@ rust: archive
 	@mkdir -p target/rust
 	@$(RUSTC) -O --crate-type rlib --crate-name lumbixet -o target/rust/liblumbixet.rlib bindings/rust/src/lib.rs
 	@$(RUSTC) --crate-type rlib --crate-name lumbixet --cfg 'feature="std"' -o target/rust/with-std.rlib bindings/rust/src/lib.rs
-	@set -e; for test in room edges objects rooms; do \
+	@set -e; for test in room edges objects rooms profiles; do \
 	    $(RUSTC) --test --extern lumbixet=target/rust/liblumbixet.rlib -o target/rust/$$test bindings/rust/tests/$$test.rs; \
 	    target/rust/$$test -q; \
 	done

@@ -56,6 +56,10 @@ static const struct row rows[] = {
     {"report of 200 entries read", read_reports, LONG_LIST},
     {"report of 50 entries written", write_reports, OLD_LIST},
     {"report of 200 entries written", write_reports, LONG_LIST},
+    {"report of profile 2, 50 entries read", read_reports, OLD_GROUPS},
+    {"report of profile 2, 200 entries read", read_reports, LONG_GROUPS},
+    {"report of profile 2, 50 entries written", write_reports, OLD_GROUPS},
+    {"report of profile 2, 200 entries written", write_reports, LONG_GROUPS},
     {"object arrived, record lent", arrive_objects, 0},
     {"report of 256 objects made, all arrived", report_objects, 0},
     {"report of 256 objects made, 255 lost", report_objects, 1},
@@ -129,11 +133,11 @@ static double best_of(double (*round)(const struct side *, int, int), int kind)
 }
 
 /* A line, not a curve: what an entry costs in a long report beside what it costs in one of 50. */
-static void print_entries(void)
+static void print_entries(int profile, int old, int long_one)
 {
-    printf("An entry takes the archive %.2f ns to read in a report of 50 and %.2f in one of 200; %.2f and %.2f to write.\n",
-           best_of(read_reports, OLD_LIST) / 50, best_of(read_reports, LONG_LIST) / 200,
-           best_of(write_reports, OLD_LIST) / 50, best_of(write_reports, LONG_LIST) / 200);
+    printf("Profile %d: an entry takes the archive %.2f ns to read in a report of 50 and %.2f in one of 200; %.2f and %.2f to write.\n",
+           profile, best_of(read_reports, old) / 50, best_of(read_reports, long_one) / 200,
+           best_of(write_reports, old) / 50, best_of(write_reports, long_one) / 200);
 }
 
 /* The processor's own name, as the system tells it. */
@@ -172,6 +176,7 @@ int main(void)
     time_all();
     print_table();
     print_bytes();
-    print_entries();
+    print_entries(LUMBIXET_PROFILE_1, OLD_LIST, LONG_LIST);
+    print_entries(LUMBIXET_PROFILE_2, OLD_GROUPS, LONG_GROUPS);
     return 0;
 }

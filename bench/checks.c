@@ -7,7 +7,7 @@
 
 #include "inputs.h"
 
-uint8_t left[4096], right[4096];
+uint8_t left[5120], right[5120];
 
 static uint64_t count;
 static uint64_t state = 11;

@@ -23,7 +23,7 @@ void any_numbers(uint64_t *list, size_t length);
 uint64_t any_mark(uint64_t once_ce);
 
 /* A buffer for each side, both filled alike, so that a byte that one side should not write is seen. */
-extern uint8_t left[4096], right[4096];
+extern uint8_t left[5120], right[5120];
 void fill_buffers(void);
 bool same_buffers(void);
 

@@ -162,20 +162,29 @@ static void make_header(lumbixet_header *h, uint64_t *state)
     h->total = h->received + h->late + h->lost;
 }
 
-static void make_reports(struct reports *made, size_t entries)
+/* In profile 2 each group has five objects, and the next one begins at a smaller object again. */
+static void make_reports(struct reports *made, uint64_t profile, size_t entries)
 {
     uint64_t state = 4;
-    made->size = 16 * entries;
+    size_t record = profile == LUMBIXET_PROFILE_2 ? 24 : 16;
+    made->profile = profile;
+    made->size = record * entries;
     for (size_t v = 0; v < VARIANTS; v++) {
         lumbixet_header *h = &made->headers[v];
         make_header(h, &state);
         uint64_t object = pick(&state) % 1000000;
         for (size_t i = 0; i < entries; i++) {
+            uint8_t *place = made->records[v] + record * i;
             object += 1 + pick(&state) % 2;
-            make_record(made->records[v] + 16 * i, object, &state);
+            if (profile == LUMBIXET_PROFILE_2) {
+                if (i % 5 == 0)
+                    object -= object % 16;
+                place[7] = (uint8_t)(i / 5);
+            }
+            make_record(place + record - 16, object, &state);
         }
         lumbixet_written written =
-            plain_write_report(made->bytes[v], REPORT_ROOM, *h, made->records[v], made->size, LUMBIXET_ENTRIES);
+            plain_write_report(profile, made->bytes[v], REPORT_ROOM, *h, made->records[v], made->size, LUMBIXET_ENTRIES);
         expect(written.result == 0 && written.kept == entries, "a report");
         made->lengths[v] = written.next;
     }
@@ -195,6 +204,8 @@ void make_inputs(void)
         make_traffic(&traffic[pattern][0], pattern, 1);
         make_traffic(&traffic[pattern][1], pattern, 3);
     }
-    make_reports(&reports[OLD_LIST], LUMBIXET_OLD_ENTRIES);
-    make_reports(&reports[LONG_LIST], LUMBIXET_ENTRIES);
+    make_reports(&reports[OLD_LIST], LUMBIXET_PROFILE_1, LUMBIXET_OLD_ENTRIES);
+    make_reports(&reports[LONG_LIST], LUMBIXET_PROFILE_1, LUMBIXET_ENTRIES);
+    make_reports(&reports[OLD_GROUPS], LUMBIXET_PROFILE_2, LUMBIXET_OLD_ENTRIES);
+    make_reports(&reports[LONG_GROUPS], LUMBIXET_PROFILE_2, LUMBIXET_ENTRIES);
 }

@@ -15,7 +15,7 @@ enum {
     BLOCK = 32,      /* packets between two writes */
     STEP_US = 100,   /* microseconds between two packets */
     SITTING = 45000 * BLOCK, /* packets of two hours, one every 5 ms */
-    REPORT_ROOM = 4000
+    REPORT_ROOM = 5000
 };
 
 struct numbers {
@@ -42,9 +42,10 @@ struct traffic {
 };
 
 struct reports {
+    uint64_t profile;
     size_t size; /* of all records of a report, in bytes */
     lumbixet_header headers[VARIANTS];
-    uint8_t records[VARIANTS][LUMBIXET_ENTRIES * 16];
+    uint8_t records[VARIANTS][LUMBIXET_ENTRIES * 24];
     uint8_t bytes[VARIANTS][REPORT_ROOM];
     size_t lengths[VARIANTS];
 };
@@ -53,8 +54,8 @@ struct reports {
  * confirmed before the next one. */
 enum { ONE_RANGE, EIGHT_RANGES, SIXTY_FOUR_RANGES, COUNTED, SITTINGS, CONFIRMED, ACK_KINDS };
 enum { IN_ORDER, LOSS, SWAPPED, PATTERNS };
-/* So many entries each: as many as old receivers take, and as many as there may be. */
-enum { OLD_LIST, LONG_LIST, REPORT_KINDS };
+/* So many entries each: as many as old receivers take, and as many as there may be; then the same in profile 2. */
+enum { OLD_LIST, LONG_LIST, OLD_GROUPS, LONG_GROUPS, REPORT_KINDS };
 
 extern struct numbers numbers;
 extern struct acks acks[ACK_KINDS];

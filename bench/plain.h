@@ -28,11 +28,11 @@ uint64_t plain_timer_lent(lumbixet_receiver *receiver, uint64_t time_us);
 lumbixet_wrote_lent plain_write_lent(lumbixet_receiver *receiver, uint64_t time_us, bool counts, uint8_t *buffer,
                                      size_t length);
 
-lumbixet_report plain_read_report(const uint8_t *bytes, size_t length);
-lumbixet_entries plain_find_entries(const uint8_t *bytes, size_t length);
-lumbixet_entry plain_read_entry(const uint8_t *entries, size_t length, size_t index);
-lumbixet_written plain_write_report(uint8_t *buffer, size_t length, lumbixet_header header, const uint8_t *records,
-                                    size_t records_length, uint64_t maximum);
+lumbixet_report plain_read_report(uint64_t profile, const uint8_t *bytes, size_t length);
+lumbixet_entries plain_find_entries(uint64_t profile, const uint8_t *bytes, size_t length);
+lumbixet_entry plain_read_entry(uint64_t profile, const uint8_t *entries, size_t length, size_t index);
+lumbixet_written plain_write_report(uint64_t profile, uint8_t *buffer, size_t length, lumbixet_header header,
+                                    const uint8_t *records, size_t records_length, uint64_t maximum);
 
 uint64_t plain_tracker_open(lumbixet_tracker *tracker, uint64_t first, uint64_t interval);
 uint64_t plain_tracker_arrived(lumbixet_tracker *tracker, uint64_t object, uint64_t time, uint64_t deadline);

@@ -1,13 +1,29 @@
 /* The feedback report by hand from documents 01 and 02: the same answers and refusals as the archive, and no proof. */
 #include "plain_numbers.h"
 
-#define RECORD 16
-#define MOST_METRICS 4
 #define MOST_ENTRIES 200
 #define MOST_GIVEN 256
 
-static inline bool known_type(uint64_t kind)
+static inline bool known_profile(uint64_t profile)
 {
+    return profile == LUMBIXET_PROFILE_1 || profile == LUMBIXET_PROFILE_2;
+}
+
+/* Bytes of a record, of which those of profile 2 begin with the group. */
+static inline size_t record_size(uint64_t profile)
+{
+    return profile == LUMBIXET_PROFILE_2 ? 24 : 16;
+}
+
+static inline uint64_t most_metrics(uint64_t profile)
+{
+    return profile == LUMBIXET_PROFILE_2 ? 8 : 4;
+}
+
+static inline bool good_type(uint64_t profile, uint64_t kind)
+{
+    if (profile == LUMBIXET_PROFILE_2)
+        return kind % 2 == 0;
     return kind == 0x02 || kind == 0x04 || kind == 0x10 || kind == 0x12;
 }
 
@@ -19,16 +35,36 @@ static inline bool entry_good(const uint8_t *record)
 }
 
 /* Whether every record obeys its rule and the object numbers rise strictly. */
-static bool entries_good(const uint8_t *records, size_t count)
+static bool objects_good(const uint8_t *records, size_t count)
 {
     uint64_t above = 0; /* one past the last object number */
     for (size_t i = 0; i < count; i++) {
-        const uint8_t *record = records + i * RECORD;
+        const uint8_t *record = records + i * 16;
         if (!entry_good(record) || load8(record) < above)
             return false;
         above = load8(record) + 1;
     }
     return true;
+}
+
+/* The same of records with groups, which rise by group and then object. */
+static bool groups_good(const uint8_t *records, size_t count)
+{
+    uint64_t group = 0, above = 0; /* the last group, and one past its last object number */
+    for (size_t i = 0; i < count; i++) {
+        const uint8_t *record = records + i * 24;
+        uint64_t own = load8(record), object = load8(record + 8);
+        if (own > LARGEST || !entry_good(record + 8) || own < group || (own == group && object < above))
+            return false;
+        group = own;
+        above = object + 1;
+    }
+    return true;
+}
+
+static inline bool entries_good(uint64_t profile, const uint8_t *records, size_t count)
+{
+    return profile == LUMBIXET_PROFILE_2 ? groups_good(records, count) : objects_good(records, count);
 }
 
 /* Reads the next number: 2 where it is cut, 15 where its form is longer than needed. */
@@ -41,7 +77,7 @@ static inline uint64_t take_shortest(struct reader *reader, uint64_t *value)
 }
 
 /* Reads the numbers of a report, each judged as it comes. */
-static uint64_t take_header(struct reader *reader, lumbixet_header *h)
+static uint64_t take_header(uint64_t profile, struct reader *reader, lumbixet_header *h)
 {
     uint64_t average, fault;
     if ((fault = take_shortest(reader, &h->timestamp)) || (fault = take_shortest(reader, &h->interval)) ||
@@ -53,12 +89,12 @@ static uint64_t take_header(struct reader *reader, lumbixet_header *h)
     if ((fault = take_shortest(reader, &average)) || (fault = take_shortest(reader, &h->metrics)))
         return fault;
     h->average = average % 2 ? -(int64_t)(average / 2) - 1 : (int64_t)(average / 2);
-    if (h->metrics > MOST_METRICS)
+    if (h->metrics > most_metrics(profile))
         return LUMBIXET_COUNT_OR_TYPE;
     for (uint64_t i = 0; i < h->metrics; i++) {
         if ((fault = take_shortest(reader, &h->kinds[i])))
             return fault;
-        if (!known_type(h->kinds[i]) || (i && h->kinds[i] <= h->kinds[i - 1]))
+        if (!good_type(profile, h->kinds[i]) || (i && h->kinds[i] <= h->kinds[i - 1]))
             return LUMBIXET_COUNT_OR_TYPE;
         if ((fault = take_shortest(reader, &h->values[i])))
             return fault;
@@ -69,46 +105,52 @@ static uint64_t take_header(struct reader *reader, lumbixet_header *h)
 }
 
 /* Judges a whole report; the reader then stands where the entries start. */
-static uint64_t judge_report(struct reader *reader, lumbixet_header *header)
+static uint64_t judge_report(uint64_t profile, struct reader *reader, lumbixet_header *header)
 {
-    uint64_t result = take_header(reader, header);
+    if (!known_profile(profile))
+        return LUMBIXET_OTHER_PROFILE;
+    uint64_t result = take_header(profile, reader, header);
     if (result)
         return result;
-    size_t left = reader->length - reader->at;
-    if (left < header->entries * RECORD)
+    size_t left = reader->length - reader->at, taken = header->entries * record_size(profile);
+    if (left < taken)
         return LUMBIXET_ENDS;
-    if (!entries_good(reader->bytes + reader->at, header->entries))
+    if (!entries_good(profile, reader->bytes + reader->at, header->entries))
         return LUMBIXET_ENTRY;
-    return left > header->entries * RECORD ? LUMBIXET_BYTES_BEHIND : LUMBIXET_ACCEPTED;
+    return left > taken ? LUMBIXET_BYTES_BEHIND : LUMBIXET_ACCEPTED;
 }
 
-lumbixet_report plain_read_report(const uint8_t *bytes, size_t length)
+lumbixet_report plain_read_report(uint64_t profile, const uint8_t *bytes, size_t length)
 {
     struct reader reader = {bytes, length, 0};
     lumbixet_report report = {0};
-    report.result = judge_report(&reader, &report.header);
+    report.result = judge_report(profile, &reader, &report.header);
     if (report.result)
         memset(&report.header, 0, sizeof report.header);
     return report;
 }
 
-lumbixet_entries plain_find_entries(const uint8_t *bytes, size_t length)
+lumbixet_entries plain_find_entries(uint64_t profile, const uint8_t *bytes, size_t length)
 {
     struct reader reader = {bytes, length, 0};
     lumbixet_header header = {0};
-    if (judge_report(&reader, &header))
+    if (judge_report(profile, &reader, &header))
         return (lumbixet_entries){length, 0};
     return (lumbixet_entries){reader.at, length - reader.at};
 }
 
-lumbixet_entry plain_read_entry(const uint8_t *entries, size_t length, size_t index)
+lumbixet_entry plain_read_entry(uint64_t profile, const uint8_t *entries, size_t length, size_t index)
 {
-    if (index >= length / RECORD)
+    if (!known_profile(profile))
+        return (lumbixet_entry){.result = LUMBIXET_OTHER_PROFILE};
+    size_t size = record_size(profile);
+    if (index >= length / size)
         return (lumbixet_entry){.result = LUMBIXET_ENDS};
-    const uint8_t *record = entries + index * RECORD;
-    if (!entry_good(record))
+    const uint8_t *record = entries + index * size + size - 16;
+    uint64_t group = size == 24 ? load8(record - 8) : 0;
+    if (group > LARGEST || !entry_good(record))
         return (lumbixet_entry){.result = LUMBIXET_ENTRY};
-    return (lumbixet_entry){LUMBIXET_ACCEPTED, load8(record), record[8], load4(record + 12)};
+    return (lumbixet_entry){LUMBIXET_ACCEPTED, group, load8(record), record[8], load4(record + 12)};
 }
 
 /* The number that a signed average is stored as; outside its range it is above the largest number. */
@@ -118,31 +160,33 @@ static inline uint64_t stored(int64_t n)
 }
 
 /* Judges a header to be written: every number, then the sum, then the metrics. */
-static uint64_t header_refusal(const lumbixet_header *h)
+static uint64_t header_refusal(uint64_t profile, const lumbixet_header *h)
 {
+    const uint64_t most = most_metrics(profile);
     if (h->timestamp > LARGEST || h->interval > LARGEST || h->total > LARGEST || h->received > LARGEST ||
         h->late > LARGEST || h->lost > LARGEST || stored(h->average) > LARGEST || h->metrics > LARGEST)
         return LUMBIXET_TOO_LARGE;
-    for (uint64_t i = 0; i < h->metrics && i < MOST_METRICS; i++)
+    for (uint64_t i = 0; i < h->metrics && i < most; i++)
         if (h->kinds[i] > LARGEST || h->values[i] > LARGEST)
             return LUMBIXET_TOO_LARGE;
     if (h->total != h->received + h->late + h->lost)
         return LUMBIXET_SUM;
-    if (h->metrics > MOST_METRICS)
+    if (h->metrics > most)
         return LUMBIXET_COUNT_OR_TYPE;
     for (uint64_t i = 0; i < h->metrics; i++)
-        if (!known_type(h->kinds[i]) || (i && h->kinds[i] <= h->kinds[i - 1]))
+        if (!good_type(profile, h->kinds[i]) || (i && h->kinds[i] <= h->kinds[i - 1]))
             return LUMBIXET_COUNT_OR_TYPE;
     return LUMBIXET_ACCEPTED;
 }
 
-static uint64_t records_refusal(const uint8_t *records, size_t length)
+static uint64_t records_refusal(uint64_t profile, const uint8_t *records, size_t length)
 {
-    if (length % RECORD)
+    size_t size = record_size(profile);
+    if (length % size)
         return LUMBIXET_ENTRY;
-    if (length / RECORD > MOST_GIVEN)
+    if (length / size > MOST_GIVEN)
         return LUMBIXET_COUNT_OR_TYPE;
-    return entries_good(records, length / RECORD) ? LUMBIXET_ACCEPTED : LUMBIXET_ENTRY;
+    return entries_good(profile, records, length / size) ? LUMBIXET_ACCEPTED : LUMBIXET_ENTRY;
 }
 
 /* How many bytes a header takes that was judged, up to before the entry count. */
@@ -166,31 +210,31 @@ static inline uint8_t *store_header(uint8_t *buffer, const lumbixet_header *h)
     return p;
 }
 
-/* How many of so many records fit behind a header of so many bytes: from 64 on the count takes two. */
-static inline size_t fitting(size_t given, size_t room)
+/* How many of so many records of a size fit behind a header of so many bytes: from 64 on the count takes two. */
+static inline size_t fitting(size_t size, size_t given, size_t room)
 {
-    size_t kept = room / RECORD;
+    size_t kept = room / size;
     if (kept > 63)
-        kept = (room - 1) / RECORD;
+        kept = (room - 1) / size;
     return kept < given ? kept : given;
 }
 
-lumbixet_written plain_write_report(uint8_t *buffer, size_t length, lumbixet_header header, const uint8_t *records,
-                                    size_t records_length, uint64_t maximum)
+lumbixet_written plain_write_report(uint64_t profile, uint8_t *buffer, size_t length, lumbixet_header header,
+                                    const uint8_t *records, size_t records_length, uint64_t maximum)
 {
-    uint64_t result = header_refusal(&header);
+    uint64_t result = known_profile(profile) ? header_refusal(profile, &header) : LUMBIXET_OTHER_PROFILE;
     if (!result && maximum > MOST_ENTRIES)
         result = LUMBIXET_COUNT_OR_TYPE;
     if (!result)
-        result = records_refusal(records, records_length);
+        result = records_refusal(profile, records, records_length);
     if (result)
         return (lumbixet_written){.result = result};
     size_t head = header_width(&header);
     if (length <= head)
         return (lumbixet_written){.result = LUMBIXET_NO_ROOM};
-    size_t given = records_length / RECORD;
-    size_t kept = fitting(given < maximum ? given : maximum, length - head - 1);
+    size_t size = record_size(profile), given = records_length / size;
+    size_t kept = fitting(size, given < maximum ? given : maximum, length - head - 1);
     uint8_t *p = store(store_header(buffer, &header), kept);
-    memcpy(p, records + records_length - kept * RECORD, kept * RECORD);
-    return (lumbixet_written){LUMBIXET_ACCEPTED, (size_t)(p - buffer) + kept * RECORD, kept};
+    memcpy(p, records + records_length - kept * size, kept * size);
+    return (lumbixet_written){LUMBIXET_ACCEPTED, (size_t)(p - buffer) + kept * size, kept};
 }

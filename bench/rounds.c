@@ -117,7 +117,7 @@ double read_reports(const struct side *side, int kind, int round)
     uint64_t sum = 0;
     uint64_t from = now();
     for (size_t i = 0; i < CALLS; i++) {
-        lumbixet_report report = side->read_report(r->bytes[i % VARIANTS], r->lengths[i % VARIANTS]);
+        lumbixet_report report = side->read_report(r->profile, r->bytes[i % VARIANTS], r->lengths[i % VARIANTS]);
         sum += report.header.total + report.header.entries;
     }
     uint64_t passed = since(from);
@@ -134,8 +134,8 @@ double write_reports(const struct side *side, int kind, int round)
     uint64_t from = now();
     for (size_t i = 0; i < CALLS; i++) {
         size_t v = i % VARIANTS;
-        lumbixet_written written =
-            side->write_report(buffer, sizeof buffer, r->headers[v], r->records[v], r->size, LUMBIXET_ENTRIES);
+        lumbixet_written written = side->write_report(r->profile, buffer, sizeof buffer, r->headers[v], r->records[v], r->size,
+                                                      LUMBIXET_ENTRIES);
         sum += written.next + buffer[written.next - 1];
     }
     uint64_t passed = since(from);

@@ -22,10 +22,10 @@ struct side {
     uint64_t (*packet_lent)(lumbixet_receiver *, uint64_t, uint64_t, bool, uint64_t);
     uint64_t (*timer_lent)(lumbixet_receiver *, uint64_t);
     lumbixet_wrote_lent (*write_lent)(lumbixet_receiver *, uint64_t, bool, uint8_t *, size_t);
-    lumbixet_report (*read_report)(const uint8_t *, size_t);
-    lumbixet_entries (*find_entries)(const uint8_t *, size_t);
-    lumbixet_entry (*read_entry)(const uint8_t *, size_t, size_t);
-    lumbixet_written (*write_report)(uint8_t *, size_t, lumbixet_header, const uint8_t *, size_t, uint64_t);
+    lumbixet_report (*read_report)(uint64_t, const uint8_t *, size_t);
+    lumbixet_entries (*find_entries)(uint64_t, const uint8_t *, size_t);
+    lumbixet_entry (*read_entry)(uint64_t, const uint8_t *, size_t, size_t);
+    lumbixet_written (*write_report)(uint64_t, uint8_t *, size_t, lumbixet_header, const uint8_t *, size_t, uint64_t);
     uint64_t (*tracker_open)(lumbixet_tracker *, uint64_t, uint64_t);
     uint64_t (*tracker_arrived)(lumbixet_tracker *, uint64_t, uint64_t, uint64_t);
     uint64_t (*tracker_ended_early)(lumbixet_tracker *, uint64_t, uint64_t);

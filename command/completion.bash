@@ -8,10 +8,13 @@ _lumbixet() {
     fi
     case ${COMP_WORDS[1]} in
     replay) options='--words --json --picture --strict --help --version' ;;
-    frame | report) options='--json --strict --help --version' ;;
+    frame) options='--json --strict --help --version' ;;
+    report) options='--profile --json --strict --help --version' ;;
     *) return ;;
     esac
-    if [[ $word == -* && $before != --picture ]]; then
+    if [[ ${COMP_WORDS[1]} == report && $before == --profile ]]; then
+        mapfile -t COMPREPLY < <(compgen -W '1 2' -- "$word")
+    elif [[ $word == -* && $before != --picture ]]; then
         mapfile -t COMPREPLY < <(compgen -W "$options" -- "$word")
     else
         compopt -o filenames 2>/dev/null || :

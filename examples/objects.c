@@ -32,7 +32,7 @@ static void report(const lumbixet_tracker *tracker, uint64_t time)
     lumbixet_report made = lumbixet_tracker_report(tracker, time, 100000, entries, sizeof entries);
     must(made.result, "report");
     for (uint64_t i = 0; i < made.header.entries; i++) {
-        lumbixet_entry entry = lumbixet_read_entry(entries, 16 * made.header.entries, i);
+        lumbixet_entry entry = lumbixet_read_entry(LUMBIXET_PROFILE_1, entries, 16 * made.header.entries, i);
         if (entry.object - FIRST < SHOWN)
             strip[entry.object - FIRST] = letters[entry.status];
     }

@@ -20,7 +20,8 @@
  * `confirmed` and lumbixet_confirm. 0.3 brought the totals of marks: lumbixet_packet takes the ECN field in place
  * of the CE mark, lumbixet_write takes which ACK to write, and a record is 288 bytes; one that was kept by an
  * earlier version is opened anew. 0.4 brought lumbixet_lent.h. 0.5 brought reports of 200 entries:
- * lumbixet_write_report takes the most that it may write. Announced are more metrics in lumbixet_header. Numbers keep
+ * lumbixet_write_report takes the most that it may write. 0.6 brought profile 2 of the report: the calls of
+ * lumbixet_report.h take the profile first, lumbixet_header holds 8 metrics, and lumbixet_entry has the group. Numbers keep
  * their meaning.
  */
 #ifndef LUMBIXET_H
@@ -36,10 +37,10 @@ extern "C" {
 
 /* The version of this header and of the archive that goes with it: its parts, one number to compare, and its name. */
 #define LUMBIXET_VERSION_MAJOR 0
-#define LUMBIXET_VERSION_MINOR 5
+#define LUMBIXET_VERSION_MINOR 6
 #define LUMBIXET_VERSION_PATCH 0
 #define LUMBIXET_VERSION (10000 * LUMBIXET_VERSION_MAJOR + 100 * LUMBIXET_VERSION_MINOR + LUMBIXET_VERSION_PATCH)
-#define LUMBIXET_VERSION_TEXT "0.5.0"
+#define LUMBIXET_VERSION_TEXT "0.6.0"
 
 /* The largest number, threshold and time: 2^62 - 1. */
 #define LUMBIXET_LARGEST UINT64_C(4611686018427387903)
@@ -47,7 +48,8 @@ extern "C" {
 /* Room that always suffices; tools/check-room.c computes each again. */
 #define LUMBIXET_ACK_ROOM 1066     /* bytes of an ACK frame with counts and every range that the window can have */
 #define LUMBIXET_FREQUENCY_ROOM 34 /* bytes of an ACK_FREQUENCY frame */
-#define LUMBIXET_REPORT_ROOM 3295  /* bytes of a report with 4 metrics and 200 entries */
+#define LUMBIXET_REPORT_ROOM 3295  /* bytes of a report with 4 metrics and 200 entries, in profile 1 */
+#define LUMBIXET_REPORT_2_ROOM 4987 /* bytes of a report with 8 metrics and 200 entries, in profile 2 */
 #define LUMBIXET_RANGES_ROOM(bytes) ((bytes) > 5 ? (bytes) - 3 : 2) /* numbers for the ranges of an ACK of so many bytes */
 
 /* What `result` says. Numbers between those named here are kept for calls to come. */
@@ -69,6 +71,7 @@ enum {
     LUMBIXET_BELOW_ZERO = 14,   /* an ACK range goes below number 0 */
     LUMBIXET_LONGER_FORM = 15,  /* a report's number is not in its shortest form */
     LUMBIXET_OUTSIDE = 17,      /* of the tracker: the object is none of the 256 */
+    LUMBIXET_OTHER_PROFILE = 18, /* the report's profile is neither 1 nor 2 */
     LUMBIXET_NOT_ACKNOWLEDGED = 19, /* the confirmed number is above the largest acknowledged, or none is acknowledged */
     LUMBIXET_STALE = 255        /* of lumbixet_threshold alone: an obsolete frame; nothing changed */
 };

@@ -27,6 +27,8 @@ static inline const char *lumbixet_refusal_text(uint64_t result)
     };
     if (result == LUMBIXET_OUTSIDE)
         return "the object is none of those tracked";
+    if (result == LUMBIXET_OTHER_PROFILE)
+        return "the profile is another one";
     if (result == LUMBIXET_NOT_ACKNOWLEDGED)
         return "this number was not acknowledged yet";
     if (result == LUMBIXET_STALE)

@@ -47,7 +47,7 @@ uint64_t lumbixet_tracker_arrived(lumbixet_tracker *tracker, uint64_t object, ui
 uint64_t lumbixet_tracker_ended_early(lumbixet_tracker *tracker, uint64_t object, uint64_t time);
 
 /* Makes the report's header for a time and a report interval, and the entries, 16 bytes each, at the start of the
- * buffer; header.entries says how many. Both go to lumbixet_write_report as they are. An object that did not arrive
+ * buffer; header.entries says how many. Both go to lumbixet_write_report as they are, in profile 1. An object that did not arrive
  * is not received once a larger one arrived, or once more than twice the interval has passed after its expected
  * arrival, counted from the first arrival; before that it has no entry.
  * 1; 5 for the time and the interval, then for an average outside -2^61 to 2^61 - 1; 9 where not all entries fit. */

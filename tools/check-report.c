@@ -1,21 +1,23 @@
 /* Holds include/lumbixet_report.h to the archive, as tools/check-header.c does the rest. `make host` builds and runs it. */
 #include "same.h"
 
-SIZE(lumbixet_header, 136);
-SIZE(lumbixet_report, 144);
+SIZE(lumbixet_header, 200);
+SIZE(lumbixet_report, 208);
 SIZE(lumbixet_entries, 16);
-SIZE(lumbixet_entry, 32);
+SIZE(lumbixet_entry, 40);
 SIZE(lumbixet_written, 24);
 
 /* No byte between two fields: answers can be compared by their bytes. */
-SIZE(lumbixet_header, (9 + 4 + 4) * 8);
+SIZE(lumbixet_header, (9 + 8 + 8) * 8);
 SIZE(lumbixet_report, 8 + sizeof(lumbixet_header));
 
 AT(lumbixet_header, average, 48);
 AT(lumbixet_header, kinds, 64);
-AT(lumbixet_header, values, 96);
-AT(lumbixet_header, entries, 128);
+AT(lumbixet_header, values, 128);
+AT(lumbixet_header, entries, 192);
 AT(lumbixet_report, header, 8);
+AT(lumbixet_entry, group, 8);
+AT(lumbixet_entry, object, 16);
 
 static void reports(void)
 {
@@ -32,43 +34,104 @@ static void reports(void)
         .metrics = 4, .kinds = {0x02, 0x04, 0x10, 0x12}, .values = {51, 52, 53, 54}, .entries = 99,
     };
     uint8_t buffer[sizeof expected];
-    lumbixet_written written = lumbixet_write_report(buffer, sizeof buffer, header, records, 64, LUMBIXET_ENTRIES);
+    lumbixet_written written = lumbixet_write_report(LUMBIXET_PROFILE_1, buffer, sizeof buffer, header, records, 64, LUMBIXET_ENTRIES);
     SAME(written.result, LUMBIXET_ACCEPTED);
     SAME(written.next, 83);
     SAME(written.kept, 4);
     same_bytes("those of the report", buffer, expected, sizeof expected);
 
-    lumbixet_report report = lumbixet_read_report(expected, sizeof expected);
+    lumbixet_report report = lumbixet_read_report(LUMBIXET_PROFILE_1, expected, sizeof expected);
     header.entries = 4;
     SAME(report.result, LUMBIXET_ACCEPTED);
     same_bytes("those of the header", &report.header, &header, sizeof header);
-    lumbixet_entries part = lumbixet_find_entries(expected, sizeof expected);
+    lumbixet_entries part = lumbixet_find_entries(LUMBIXET_PROFILE_1, expected, sizeof expected);
     SAME(part.start, 19);
     SAME(part.length, 64);
-    lumbixet_entry entry = lumbixet_read_entry(expected + part.start, part.length, 1);
+    lumbixet_entry entry = lumbixet_read_entry(LUMBIXET_PROFILE_1, expected + part.start, part.length, 1);
     SAME(entry.result, LUMBIXET_ACCEPTED);
+    SAME(entry.group, 0);
     SAME(entry.object, 8);
     SAME(entry.status, LUMBIXET_LATE);
     SAME(entry.age, 256);
-    SAME(lumbixet_read_entry(records, 64, 0).status, LUMBIXET_RECEIVED);
-    SAME(lumbixet_read_entry(records, 64, 2).status, LUMBIXET_NOT_RECEIVED);
-    SAME(lumbixet_read_entry(records, 64, 3).status, LUMBIXET_PARTIAL);
-    SAME(lumbixet_read_entry(records, 64, 4).result, LUMBIXET_ENDS);
+    SAME(lumbixet_read_entry(LUMBIXET_PROFILE_1, records, 64, 0).status, LUMBIXET_RECEIVED);
+    SAME(lumbixet_read_entry(LUMBIXET_PROFILE_1, records, 64, 2).status, LUMBIXET_NOT_RECEIVED);
+    SAME(lumbixet_read_entry(LUMBIXET_PROFILE_1, records, 64, 3).status, LUMBIXET_PARTIAL);
+    SAME(lumbixet_read_entry(LUMBIXET_PROFILE_1, records, 64, 4).result, LUMBIXET_ENDS);
 
-    SAME(lumbixet_read_report(expected, sizeof expected - 1).result, LUMBIXET_ENDS);
-    SAME(lumbixet_find_entries(expected, sizeof expected - 1).start, 82);
+    SAME(lumbixet_read_report(LUMBIXET_PROFILE_1, expected, sizeof expected - 1).result, LUMBIXET_ENDS);
+    SAME(lumbixet_find_entries(LUMBIXET_PROFILE_1, expected, sizeof expected - 1).start, 82);
     static const uint8_t long_average[] = {0, 0, 0, 0, 0, 0, 0x40, 0, 0, 0};
-    SAME(lumbixet_read_report(long_average, sizeof long_average).result, LUMBIXET_LONGER_FORM);
-    SAME(lumbixet_write_report(buffer, sizeof buffer, header, records, 63, LUMBIXET_ENTRIES).result, LUMBIXET_ENTRY);
-    SAME(lumbixet_write_report(buffer, sizeof buffer, header, records, 63, LUMBIXET_ENTRIES + 1).result, LUMBIXET_COUNT_OR_TYPE);
+    SAME(lumbixet_read_report(LUMBIXET_PROFILE_1, long_average, sizeof long_average).result, LUMBIXET_LONGER_FORM);
+    SAME(lumbixet_write_report(LUMBIXET_PROFILE_1, buffer, sizeof buffer, header, records, 63, LUMBIXET_ENTRIES).result, LUMBIXET_ENTRY);
+    SAME(lumbixet_write_report(LUMBIXET_PROFILE_1, buffer, sizeof buffer, header, records, 63, LUMBIXET_ENTRIES + 1).result, LUMBIXET_COUNT_OR_TYPE);
     header.metrics = 5;
-    SAME(lumbixet_write_report(buffer, sizeof buffer, header, records, 64, LUMBIXET_ENTRIES).result, LUMBIXET_COUNT_OR_TYPE);
+    SAME(lumbixet_write_report(LUMBIXET_PROFILE_1, buffer, sizeof buffer, header, records, 64, LUMBIXET_ENTRIES).result, LUMBIXET_COUNT_OR_TYPE);
     header.lost = 31;
-    SAME(lumbixet_write_report(buffer, sizeof buffer, header, records, 64, LUMBIXET_ENTRIES).result, LUMBIXET_SUM);
+    SAME(lumbixet_write_report(LUMBIXET_PROFILE_1, buffer, sizeof buffer, header, records, 64, LUMBIXET_ENTRIES).result, LUMBIXET_SUM);
     static const uint8_t behind[] = {0x80, 0x0f, 0x42, 0x40, 0x80, 0x01, 0x86, 0xa0, 3, 1, 1, 1, 3, 0, 0, 0};
-    SAME(lumbixet_read_report(behind, sizeof behind).result, LUMBIXET_BYTES_BEHIND);
+    SAME(lumbixet_read_report(LUMBIXET_PROFILE_1, behind, sizeof behind).result, LUMBIXET_BYTES_BEHIND);
     static const uint8_t longer[] = {0, 0, 0, 0, 0, 0, 0, 0, 0x40, 0};
-    SAME(lumbixet_read_report(longer, sizeof longer).result, LUMBIXET_LONGER_FORM);
+    SAME(lumbixet_read_report(LUMBIXET_PROFILE_1, longer, sizeof longer).result, LUMBIXET_LONGER_FORM);
+}
+
+/* Two groups, of which the second begins at a smaller object; eight metrics, of which six have no name here. */
+static void groups(void)
+{
+    static const uint8_t expected[] = {
+        1, 2, 3, 3, 0, 0, 4, 8, 0, 61, 2, 62, 4, 63, 6, 60, 8, 59, 10, 58, 12, 57, 0x40, 0x40, 56, 3,
+        0, 0, 0, 0, 0, 0, 0, 5, 0, 0, 0, 0, 0, 0, 0, 70, 0, 0, 0, 0, 0, 0, 0, 9,
+        0, 0, 0, 0, 0, 0, 0, 5, 0, 0, 0, 0, 0, 0, 0, 71, 1, 0, 0, 0, 0, 0, 1, 0,
+        0, 0, 0, 0, 0, 0, 1, 4, 0, 0, 0, 0, 0, 0, 0, 7, 2, 0, 0, 0, 0, 0, 0, 0,
+    };
+    enum { TWO = LUMBIXET_PROFILE_2, START = 26 };
+    const uint8_t *records = expected + START;
+    lumbixet_header header = {
+        .timestamp = 1, .interval = 2, .total = 3, .received = 3, .average = 2, .metrics = 8,
+        .kinds = {0, 2, 4, 6, 8, 10, 12, 64}, .values = {61, 62, 63, 60, 59, 58, 57, 56}, .entries = 3,
+    };
+    uint8_t buffer[sizeof expected];
+    lumbixet_written written = lumbixet_write_report(TWO, buffer, sizeof buffer, header, records, 72, LUMBIXET_ENTRIES);
+    SAME(written.result, LUMBIXET_ACCEPTED);
+    SAME(written.kept, 3);
+    same_bytes("those of a report with groups", buffer, expected, sizeof expected);
+    lumbixet_report report = lumbixet_read_report(TWO, expected, sizeof expected);
+    SAME(report.result, LUMBIXET_ACCEPTED);
+    same_bytes("those of the header with eight metrics", &report.header, &header, sizeof header);
+    lumbixet_entries part = lumbixet_find_entries(TWO, expected, sizeof expected);
+    SAME(part.start, START);
+    SAME(part.length, 72);
+    lumbixet_entry entry = lumbixet_read_entry(TWO, records, 72, 1);
+    SAME(entry.result, LUMBIXET_ACCEPTED);
+    SAME(entry.group, 5);
+    SAME(entry.object, 71);
+    SAME(entry.status, LUMBIXET_LATE);
+    SAME(entry.age, 256);
+    SAME(lumbixet_read_entry(TWO, records, 72, 2).group, 260);
+    SAME(lumbixet_read_entry(TWO, records, 72, 3).result, LUMBIXET_ENDS);
+    SAME(lumbixet_write_report(TWO, buffer, sizeof buffer - 1, header, records, 72, LUMBIXET_ENTRIES).next, START + 48);
+    SAME(lumbixet_write_report(TWO, buffer, sizeof buffer, header, records, 48 + 16, LUMBIXET_ENTRIES).result, LUMBIXET_ENTRY);
+    memcpy(buffer, records + 24, 24);
+    memcpy(buffer + 24, records, 24);
+    SAME(lumbixet_write_report(TWO, buffer + 48, 40, header, buffer, 48, LUMBIXET_ENTRIES).result, LUMBIXET_ENTRY);
+    header.kinds[1] = 1;
+    SAME(lumbixet_write_report(TWO, buffer, sizeof buffer, header, records, 72, LUMBIXET_ENTRIES).result, LUMBIXET_COUNT_OR_TYPE);
+    header.metrics = 9;
+    SAME(lumbixet_write_report(TWO, buffer, sizeof buffer, header, records, 72, LUMBIXET_ENTRIES).result, LUMBIXET_COUNT_OR_TYPE);
+}
+
+/* 18 before everything: nothing is read, no number is judged, and no room is looked at. */
+static void other_profiles(void)
+{
+    static const uint64_t others[] = {0, 3, UINT64_MAX};
+    const lumbixet_header header = {.timestamp = UINT64_MAX};
+    uint8_t bytes[9] = {0};
+    for (size_t i = 0; i < sizeof others / sizeof others[0]; i++) {
+        SAME(lumbixet_read_report(others[i], bytes, 0).result, LUMBIXET_OTHER_PROFILE);
+        SAME(lumbixet_find_entries(others[i], bytes, sizeof bytes).start, sizeof bytes);
+        SAME(lumbixet_find_entries(others[i], bytes, sizeof bytes).length, 0);
+        SAME(lumbixet_read_entry(others[i], bytes, 0, 0).result, LUMBIXET_OTHER_PROFILE);
+        SAME(lumbixet_write_report(others[i], bytes, 0, header, bytes, 1, UINT64_MAX).result, LUMBIXET_OTHER_PROFILE);
+    }
 }
 
 /* A report of so many entries on the wire, all numbers 0, the objects from 0 on: its length. */
@@ -91,27 +154,29 @@ static void limits(void)
     for (size_t i = 0; i < sizeof counts / sizeof counts[0]; i++) {
         uint64_t count = counts[i], length = so_many(bytes, count);
         SAME(length, 8 + (count < 64 ? 1 : 2) + 16 * count);
-        lumbixet_report report = lumbixet_read_report(bytes, length);
+        lumbixet_report report = lumbixet_read_report(LUMBIXET_PROFILE_1, bytes, length);
         SAME(report.result, LUMBIXET_ACCEPTED);
         SAME(report.header.entries, count);
         const uint8_t *records = bytes + length - 16 * count;
-        lumbixet_written written = lumbixet_write_report(buffer, length, header, records, 16 * count, LUMBIXET_ENTRIES);
+        lumbixet_written written = lumbixet_write_report(LUMBIXET_PROFILE_1, buffer, length, header, records, 16 * count, LUMBIXET_ENTRIES);
         SAME(written.next, length);
         same_bytes("those of a long report", buffer, bytes, length);
-        written = lumbixet_write_report(buffer, sizeof buffer, header, records, 16 * count, LUMBIXET_OLD_ENTRIES);
+        written = lumbixet_write_report(LUMBIXET_PROFILE_1, buffer, sizeof buffer, header, records, 16 * count, LUMBIXET_OLD_ENTRIES);
         SAME(written.kept, count < LUMBIXET_OLD_ENTRIES ? count : LUMBIXET_OLD_ENTRIES);
         same_bytes("the last records", buffer + 9, records + 16 * (count - written.kept), 16 * written.kept);
-        SAME(lumbixet_write_report(buffer, sizeof buffer, header, records, 16 * count, 0).next, 9);
-        SAME(lumbixet_write_report(buffer, 0, header, records, 16 * count, UINT64_MAX).result, LUMBIXET_COUNT_OR_TYPE);
+        SAME(lumbixet_write_report(LUMBIXET_PROFILE_1, buffer, sizeof buffer, header, records, 16 * count, 0).next, 9);
+        SAME(lumbixet_write_report(LUMBIXET_PROFILE_1, buffer, 0, header, records, 16 * count, UINT64_MAX).result, LUMBIXET_COUNT_OR_TYPE);
     }
-    SAME(lumbixet_read_report(bytes, so_many(bytes, 201)).result, LUMBIXET_COUNT_OR_TYPE);
-    SAME(lumbixet_write_report(buffer, sizeof buffer, header, bytes + 10, 201 * 16, LUMBIXET_ENTRIES).kept, 200);
+    SAME(lumbixet_read_report(LUMBIXET_PROFILE_1, bytes, so_many(bytes, 201)).result, LUMBIXET_COUNT_OR_TYPE);
+    SAME(lumbixet_write_report(LUMBIXET_PROFILE_1, buffer, sizeof buffer, header, bytes + 10, 201 * 16, LUMBIXET_ENTRIES).kept, 200);
 }
 
 int main(void)
 {
     reports();
     limits();
+    groups();
+    other_profiles();
     if (faults == 0)
         printf("report: %d values of the archive are as include/lumbixet_report.h says\n", seen);
     return faults != 0;

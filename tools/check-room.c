@@ -101,27 +101,44 @@ static void ranges_room(void)
     }
 }
 
-/* Each number of a frame or header takes at most 8 bytes, and the largest does; metric count and types take one, the entry
- * count two. */
-static void fixed_rooms(void)
+/* Each number of a frame takes at most 8 bytes, and the largest does. */
+static void frequency_room(void)
 {
-    static uint8_t buffer[LUMBIXET_REPORT_ROOM], records[LUMBIXET_ENTRIES * 16];
-    const uint64_t most = LUMBIXET_LARGEST, third = LUMBIXET_LARGEST / 3;
+    uint8_t buffer[LUMBIXET_FREQUENCY_ROOM];
+    const uint64_t most = LUMBIXET_LARGEST;
     HOLDS(LUMBIXET_FREQUENCY_ROOM == 2 + 4 * 8);
-    HOLDS(lumbixet_put_frequency(buffer, LUMBIXET_FREQUENCY_ROOM, most, most, most, most).next == LUMBIXET_FREQUENCY_ROOM);
+    HOLDS(lumbixet_put_frequency(buffer, sizeof buffer, most, most, most, most).next == LUMBIXET_FREQUENCY_ROOM);
+}
 
+/* So does each of a header; the metric count takes one, the entry count two, and a type one in profile 1 and eight in 2. */
+static void report_room(uint64_t profile, size_t room, size_t record, const lumbixet_header *header)
+{
+    static uint8_t buffer[LUMBIXET_REPORT_2_ROOM], records[LUMBIXET_ENTRIES * 24];
+    memset(records, 0, sizeof records);
+    for (size_t i = 0; i < LUMBIXET_ENTRIES; i++)
+        records[record * i + 7] = (uint8_t)i;
+    lumbixet_written written =
+        lumbixet_write_report(profile, buffer, room, *header, records, LUMBIXET_ENTRIES * record, LUMBIXET_ENTRIES);
+    HOLDS(written.result == LUMBIXET_ACCEPTED && written.next == room && written.kept == LUMBIXET_ENTRIES);
+    HOLDS(lumbixet_read_report(profile, buffer, room).result == LUMBIXET_ACCEPTED);
+}
+
+static void report_rooms(void)
+{
+    const uint64_t most = LUMBIXET_LARGEST, third = LUMBIXET_LARGEST / 3;
     HOLDS(LUMBIXET_REPORT_ROOM == 7 * 8 + 1 + 4 * (1 + 8) + 2 + LUMBIXET_ENTRIES * 16);
+    HOLDS(LUMBIXET_REPORT_2_ROOM == 7 * 8 + 1 + 8 * (8 + 8) + 2 + LUMBIXET_ENTRIES * 24);
     lumbixet_header header = {
         .timestamp = most, .interval = most, .total = 3 * third, .received = third, .late = third, .lost = third,
         .average = INT64_MIN / 4, .metrics = 4,
         .kinds = {LUMBIXET_PLAYOUT_AHEAD_MS, LUMBIXET_ESTIMATED_BANDWIDTH_KBPS, LUMBIXET_PEER_RTT_US, LUMBIXET_PEER_LOSS_RATE},
-        .values = {most, most, most, most},
+        .values = {most, most, most, most, most, most, most, most},
     };
-    for (uint8_t i = 0; i < LUMBIXET_ENTRIES; i++)
-        records[16 * i + 7] = i;
-    lumbixet_written written = lumbixet_write_report(buffer, sizeof buffer, header, records, sizeof records, LUMBIXET_ENTRIES);
-    HOLDS(written.result == LUMBIXET_ACCEPTED && written.next == LUMBIXET_REPORT_ROOM && written.kept == LUMBIXET_ENTRIES);
-    HOLDS(lumbixet_read_report(buffer, sizeof buffer).result == LUMBIXET_ACCEPTED);
+    report_room(LUMBIXET_PROFILE_1, LUMBIXET_REPORT_ROOM, 16, &header);
+    header.metrics = 8;
+    for (uint64_t i = 0; i < 8; i++)
+        header.kinds[i] = most - 15 + 2 * i;
+    report_room(LUMBIXET_PROFILE_2, LUMBIXET_REPORT_2_ROOM, 24, &header);
 }
 
 /* A microsecond before the time to wake nothing is due, and then the timer is. */
@@ -147,7 +164,7 @@ static void wake(void)
 static void texts(void)
 {
     for (uint64_t a = 0; a <= 300; a++) {
-        bool named = a <= LUMBIXET_LONGER_FORM || a == LUMBIXET_OUTSIDE || a == LUMBIXET_NOT_ACKNOWLEDGED || a == LUMBIXET_STALE;
+        bool named = a <= LUMBIXET_LONGER_FORM || (a >= LUMBIXET_OUTSIDE && a <= LUMBIXET_NOT_ACKNOWLEDGED) || a == LUMBIXET_STALE;
         HOLDS((strcmp(lumbixet_refusal_text(a), "unknown") != 0) == named);
         HOLDS((strcmp(lumbixet_cause_text(a), "unknown") != 0) == (a <= LUMBIXET_TIMER));
         for (uint64_t b = 0; named && b < a; b++)
@@ -164,11 +181,12 @@ int main(void)
 {
     ack_room();
     ranges_room();
-    fixed_rooms();
+    frequency_room();
+    report_rooms();
     wake();
     texts();
     if (faults == 0)
-        printf("room: an ACK takes at most %d bytes, a report %d; %d facts of the header's macros and inline calls hold\n",
-               LUMBIXET_ACK_ROOM, LUMBIXET_REPORT_ROOM, seen);
+        printf("room: an ACK takes at most %d bytes, a report %d, one of profile 2 %d; %d facts of the header's macros and inline calls hold\n",
+               LUMBIXET_ACK_ROOM, LUMBIXET_REPORT_ROOM, LUMBIXET_REPORT_2_ROOM, seen);
     return faults != 0;
 }

@@ -69,7 +69,7 @@ static void report(const lumbixet_tracker *t)
     SAME(made.header.metrics, 0);
     SAME(made.header.entries, 3);
     SAME(memcmp(entries + 16, partial, sizeof partial), 0);
-    SAME(lumbixet_write_report(report, sizeof report, made.header, entries, sizeof entries, LUMBIXET_ENTRIES).kept, 3);
+    SAME(lumbixet_write_report(LUMBIXET_PROFILE_1, report, sizeof report, made.header, entries, sizeof entries, LUMBIXET_ENTRIES).kept, 3);
 }
 
 int main(void)

@@ -2,6 +2,8 @@
 
 use std::ffi::OsString;
 
+use lumbixet::Profile;
+
 use crate::help;
 use crate::input;
 
@@ -29,6 +31,8 @@ pub struct Options {
     pub strict: bool,
     /// Where the picture goes.
     pub picture: Option<OsString>,
+    /// The profile of the reports; 1 where none is given.
+    pub profile: Option<Profile>,
     /// Files, or the digits of a frame.
     pub operands: Vec<OsString>,
 }
@@ -74,8 +78,8 @@ fn advised(command: Command, why: &str) -> String {
 }
 
 fn parse_options(command: Command, mut words: impl Iterator<Item = OsString>) -> Result<Asked, String> {
-    let mut options = Options { form: Form::Plain, strict: false, picture: None, operands: Vec::new() };
-    let replays = command == Command::Replay;
+    let mut options = Options { form: Form::Plain, strict: false, picture: None, profile: None, operands: Vec::new() };
+    let (replays, reports) = (command == Command::Replay, command == Command::Report);
     while let Some(word) = words.next() {
         match word.to_str() {
             Some("--help") => return Ok(Asked::Help(help::of(command))),
@@ -85,6 +89,8 @@ fn parse_options(command: Command, mut words: impl Iterator<Item = OsString>) ->
             Some("--words") if replays => options.choose(Form::Words)?,
             Some("--picture") if replays => options.draw(words.next().ok_or("--picture needs the name of a file to write")?)?,
             Some(long) if replays && long.starts_with("--picture=") => options.draw(long["--picture=".len()..].into())?,
+            Some("--profile") if reports => options.judge_by(words.next().as_ref().and_then(|word| word.to_str()))?,
+            Some(long) if reports && long.starts_with("--profile=") => options.judge_by(long.get("--profile=".len()..))?,
             Some("--") => options.operands.extend(words.by_ref()),
             Some("-") => options.operands.push(word),
             _ if word.to_string_lossy().starts_with('-') => return Err(format!("unknown option {}", word.to_string_lossy())),
@@ -112,6 +118,15 @@ impl Options {
             return Err("--picture needs the name of a file to write".to_string());
         }
         self.picture = Some(name);
+        Ok(())
+    }
+
+    fn judge_by(&mut self, number: Option<&str>) -> Result<(), String> {
+        if self.profile.is_some() {
+            return Err("--profile is given twice".to_string());
+        }
+        let profile = number.and_then(|digits| digits.parse().ok()).and_then(Profile::from_number);
+        self.profile = Some(profile.ok_or("--profile needs the number of a profile: 1 or 2")?);
         Ok(())
     }
 

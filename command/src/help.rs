@@ -74,6 +74,7 @@ const REPORT: &str = "lumbixet report [OPTION..] FILE..
 Reads feedback reports, one in each FILE, and says what each field holds, with the entries as a table,
 or what was refused and where. - is standard input.
 
+  --profile N       the profile of the reports: 1, or 2 for entries with a group; without it 1
   --json            prints one object a line, for machines
   --strict          exit status 1 where a report was refused
   --help            says this

@@ -1,6 +1,6 @@
 //! `lumbixet report`: what feedback reports say, field by field, and their entries as a table.
 
-use lumbixet::{Entry, Metrics, Refusal, Report, Status as Became};
+use lumbixet::{Entry, Metrics, Profile, Refusal, Report, Status as Became};
 
 use crate::arguments::{Form, Options};
 use crate::fields::{table, Fault, Field, Walk};
@@ -8,9 +8,6 @@ use crate::input::{self, Trouble};
 use crate::json::{array, Object};
 use crate::output::{Failed, Output, Status};
 use crate::text::{counted, grouped};
-
-/// How many bytes an entry has.
-const ENTRY: usize = 16;
 
 /// The fields before the entries.
 fn walk(bytes: &[u8]) -> Walk<'_> {
@@ -24,14 +21,16 @@ fn walk(bytes: &[u8]) -> Walk<'_> {
     walk
 }
 
-fn metric_name(kind: u64) -> &'static str {
-    match kind {
-        0x02 => "PLAYOUT_AHEAD_MS",
-        0x04 => "ESTIMATED_BANDWIDTH_KBPS",
-        0x10 => "PEER_RTT_US",
-        0x12 => "PEER_LOSS_RATE, per mille",
-        _ => "of a type without a name",
-    }
+/// A metric type's name in words, and for machines; profile 2 has types without a name.
+fn metric_names(kind: u64) -> (String, String) {
+    let (words, machines) = match kind {
+        Metrics::PLAYOUT_AHEAD_MS => ("PLAYOUT_AHEAD_MS", "playout_ahead_ms"),
+        Metrics::ESTIMATED_BANDWIDTH_KBPS => ("ESTIMATED_BANDWIDTH_KBPS", "estimated_bandwidth_kbps"),
+        Metrics::PEER_RTT_US => ("PEER_RTT_US", "peer_rtt_us"),
+        Metrics::PEER_LOSS_RATE => ("PEER_LOSS_RATE, per mille", "peer_loss_per_mille"),
+        _ => return (format!("{}, a type without a name", grouped(kind)), format!("type_{kind}")),
+    };
+    (words.to_string(), machines.to_string())
 }
 
 fn says(field: &Field, average: i64) -> String {
@@ -40,7 +39,7 @@ fn says(field: &Field, average: i64) -> String {
         "timestamp" | "interval" => format!("{value} us"),
         "total" => format!("{value}: received, late and lost together"),
         "average" => format!("{} us, the mean deviation of the gaps between arrivals", grouped(average)),
-        "metric type" => metric_name(field.value).to_string(),
+        "metric type" => metric_names(field.value).0,
         _ => value,
     }
 }
@@ -54,34 +53,33 @@ fn became(status: Became) -> &'static str {
     }
 }
 
-fn put(report: &Report, bytes: &[u8], output: &mut Output) {
+/// The table of entries; those of profile 2 begin with the group.
+fn put(profile: Profile, report: &Report, bytes: &[u8], output: &mut Output) {
     let rows = walk(bytes).rows(0, |_, field| says(field, report.header.average));
-    output.put(&format!("report, {}\n{}", counted(bytes.len(), "byte"), table(&rows)));
+    let of_profile = if profile == Profile::Two { " of profile 2" } else { "" };
+    output.put(&format!("report{of_profile}, {}\n{}", counted(bytes.len(), "byte"), table(&rows)));
     if report.entries.is_empty() {
         return;
     }
-    let mut rows = vec![vec!["object".to_string(), "status".to_string(), "age".to_string()]];
-    for entry in report.entries.iter() {
-        rows.push(vec![grouped(entry.object), became(entry.status).to_string(), format!("{} us", grouped(entry.age))]);
+    let mut rows = vec![["group", "object", "status", "age"].map(str::to_string).to_vec()];
+    for Entry { group, object, status, age } in report.entries.iter() {
+        rows.push(vec![grouped(group), grouped(object), became(status).to_string(), format!("{} us", grouped(age))]);
+    }
+    if profile == Profile::One {
+        rows.iter_mut().for_each(|row| drop(row.remove(0)));
     }
     output.put(&format!("entries\n{}", table(&rows)));
 }
 
 fn metrics(metrics: &Metrics) -> String {
-    let named = [
-        ("playout_ahead_ms", metrics.playout_ahead_ms),
-        ("estimated_bandwidth_kbps", metrics.estimated_bandwidth_kbps),
-        ("peer_rtt_us", metrics.peer_rtt_us),
-        ("peer_loss_per_mille", metrics.peer_loss_per_mille),
-    ];
-    let given = named.iter().filter_map(|(name, value)| value.map(|value| (name, value)));
-    given.fold(Object::new(), |object, (name, value)| object.plain(name, value)).end()
+    metrics.iter().fold(Object::new(), |object, (kind, value)| object.plain(&metric_names(kind).1, value)).end()
 }
 
-fn object(report: &Report, object: Object) -> Object {
+fn object(profile: Profile, report: &Report, object: Object) -> Object {
     let header = &report.header;
     let entry = |entry: Entry| {
-        Object::new().plain("object", entry.object).text("status", became(entry.status)).plain("age_us", entry.age).end()
+        let start = if profile == Profile::Two { Object::new().plain("group", entry.group) } else { Object::new() };
+        start.plain("object", entry.object).text("status", became(entry.status)).plain("age_us", entry.age).end()
     };
     let object = object.result(0).plain("timestamp_us", header.timestamp.0).plain("interval_us", header.interval.0);
     let object = object.plain("total", header.total).plain("received", header.received).plain("late", header.late);
@@ -90,26 +88,28 @@ fn object(report: &Report, object: Object) -> Object {
 }
 
 /// Which field or entry the refusal is about.
-fn fault(refusal: Refusal, bytes: &[u8]) -> Fault {
+fn fault(profile: Profile, refusal: Refusal, bytes: &[u8]) -> Fault {
     let walk = walk(bytes);
-    let at_entry = |index: usize| Fault { refusal, place: walk.at + ENTRY * index, field: format!("entry {index}") };
+    let size = profile.record_size();
+    let at_entry = |index: usize| Fault { refusal, place: walk.at + size * index, field: format!("entry {index}") };
     match (refusal, walk.cut) {
         // the fields are whole: the bytes end inside an entry
-        (Refusal::Ends, None) => at_entry((bytes.len() - walk.at) / ENTRY),
-        (Refusal::Entry, _) => at_entry(first_bad(&bytes[walk.at..])),
-        _ => Fault::find(refusal, &walk, |part| Report::read(part).err() == Some(refusal)),
+        (Refusal::Ends, None) => at_entry((bytes.len() - walk.at) / size),
+        (Refusal::Entry, _) => at_entry(first_bad(profile, &bytes[walk.at..])),
+        _ => Fault::find(refusal, &walk, |part| Report::read(profile, part).err() == Some(refusal)),
     }
 }
 
 /// The first record that is bad by itself or does not rise above the one before it.
-fn first_bad(records: &[u8]) -> usize {
+fn first_bad(profile: Profile, records: &[u8]) -> usize {
     let mut last = None;
     let mut index = 0;
-    while let Ok(entry) = Entry::read(records, index) {
-        if last >= Some(entry.object) {
+    while let Ok(entry) = Entry::read(profile, records, index) {
+        let place = Some((entry.group, entry.object));
+        if last >= place {
             break;
         }
-        last = Some(entry.object);
+        last = place;
         index += 1;
     }
     index
@@ -117,15 +117,16 @@ fn first_bad(records: &[u8]) -> usize {
 
 pub fn run(options: &Options, output: &mut Output) -> Result<Status, Failed> {
     let json = options.form == Form::Json;
+    let profile = options.profile.unwrap_or_default();
     input::each(&options.operands, !json, output, |name, input, output| {
         let bytes = input::whole(input)?;
         let start = Object::new().text("file", &name.to_string_lossy());
-        let answer = Report::read(&bytes);
+        let answer = Report::read(profile, &bytes);
         match &answer {
-            Ok(report) if json => output.put(&(object(report, start).end() + "\n")),
-            Ok(report) => put(report, &bytes, output),
-            Err(refusal) if json => output.put(&(fault(*refusal, &bytes).object(0, start).end() + "\n")),
-            Err(refusal) => fault(*refusal, &bytes).put(0, "report", output),
+            Ok(report) if json => output.put(&(object(profile, report, start).end() + "\n")),
+            Ok(report) => put(profile, report, &bytes, output),
+            Err(refusal) if json => output.put(&(fault(profile, *refusal, &bytes).object(0, start).end() + "\n")),
+            Err(refusal) => fault(profile, *refusal, &bytes).put(0, "report", output),
         }
         output.flush().map_err(Trouble::Output)?;
         Ok(if answer.is_err() && options.strict { Status::Refused } else { Status::Done })

@@ -116,3 +116,28 @@ refused_report "$head 00 00 ff" '13: bytes remain after the report) at byte 15, 
 echo '{"file":"-","result":13,"refusal":"bytes remain after the report","place":15,"field":"what follows"}' >line
 run ./lumbixet report --json - <bad.report
 ends 'a refused report for machines' 0 line
+
+# ---- reports of profile 2: two groups, and a metric of a type without a name
+summary='80 0f 42 40 80 01 86 a0 03 01 01 01 00'
+forty='0000000000000007 0000000000000028 01 000000 000003e8' next='0000000000000007 0000000000000029 02 000000 00000000'
+zero='0000000000000008 0000000000000000 00 000000 000001f4'
+bytes "$summary 02 02 40 50 14 05 03 $forty $next $zero" | tr -d ' ' >groups.report
+run ./lumbixet report --profile 2 groups.report
+ends 'a report of profile 2' 0 "$tests/groups.words"
+run ./lumbixet report --json --profile=2 groups.report
+ends 'a report of profile 2 for machines' 0 "$tests/groups.json"
+run ./lumbixet report --profile=1 good.report
+ends 'a report, its profile named' 0 "$tests/report.words"
+
+# DIGITS of a report of profile 2, and the line that they give.
+refused_groups() {
+    bytes "$1" | tr -d ' ' >bad.report
+    echo "report refused ($2" >line
+    run ./lumbixet report --strict --profile 2 bad.report
+    ends "the report of profile 2 $1" 1 line
+}
+refused_groups "$summary 00 02 $zero $forty" '12: an entry breaks its rule) at byte 39, entry 1'
+refused_groups "$summary 00 02 $forty $forty" '12: an entry breaks its rule) at byte 39, entry 1'
+refused_groups "$summary 00 02 $forty 00" '2: the bytes end inside a field) at byte 39, entry 1'
+refused_groups "$summary 09" '10: a metric count, metric type or entry count breaks its rule) at byte 13, metric count'
+refused_groups "$summary 01 03" '10: a metric count, metric type or entry count breaks its rule) at byte 14, metric type'

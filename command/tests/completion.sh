@@ -18,6 +18,9 @@ offers '--help --version' --
 offers '--words' replay --w
 offers '--json' frame --j
 offers '' report --w
+offers '--profile' report --p
+offers '1 2' report --profile ''
+offers '' frame --p
 offers 'seven.trace' replay --words seven.t
 offers 'good.report' report good
 offers '' play s

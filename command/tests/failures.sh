@@ -92,6 +92,11 @@ wrong_use 'unknown option --word' 'replay ' replay --word seven.trace
 wrong_use 'unknown option -w' 'replay ' replay -w seven.trace
 wrong_use 'unknown option --words' 'frame ' frame --words 1f
 wrong_use 'unknown option --picture=x' 'report ' report --picture=x good.report
+wrong_use '--profile needs the number of a profile: 1 or 2' 'report ' report --profile 3 good.report
+wrong_use '--profile needs the number of a profile: 1 or 2' 'report ' report --profile=one good.report
+wrong_use '--profile needs the number of a profile: 1 or 2' 'report ' report --profile
+wrong_use '--profile is given twice' 'report ' report --profile 1 --profile=2 good.report
+wrong_use 'unknown option --profile' 'frame ' frame --profile 2 1f
 wrong_use '--words and --json exclude each other' 'replay ' replay --words --json seven.trace
 wrong_use '--picture needs the name of a file to write' 'replay ' replay --picture
 wrong_use '--picture needs the name of a file to write' 'replay ' replay --picture= seven.trace

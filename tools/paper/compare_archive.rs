@@ -3,11 +3,12 @@
 
 use crate::random::Random;
 use crate::tally::Tally;
-use crate::{compare_codec, compare_counts, compare_forms, compare_limits, compare_receiver, compare_report, compare_tracker};
+use crate::{compare_codec, compare_counts, compare_forms, compare_limits, compare_profiles};
+use crate::{compare_receiver, compare_report, compare_tracker};
 
 /// Each round takes a made-up record through all calls, goes on with a grown one, and reads and writes frames and a report.
-/// Some rounds take a report through all its longer forms, some through the counts of entries at the limit, and some take the
-/// tracker's records through its calls.
+/// Some rounds take a report through all its longer forms, some through the counts of entries at the limit, some through what
+/// the profiles tell apart, and some take the tracker's records through its calls.
 pub fn run(count: usize) -> Result<(), String> {
     let mut random = Random::from_seed(2);
     let mut tally = Tally::default();
@@ -19,6 +20,9 @@ pub fn run(count: usize) -> Result<(), String> {
         compare_report::round(&mut random, &mut tally)?;
         if round % 20 == 0 {
             compare_forms::round(&mut random, &mut tally)?;
+        }
+        if round % 10 == 0 {
+            compare_profiles::round(&mut random, &mut tally)?;
         }
         if round % 40 == 0 {
             compare_limits::round(&mut random, &mut tally)?;

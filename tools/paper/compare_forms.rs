@@ -1,8 +1,9 @@
 //! Document 02, No. 5: every number of a report in each of its longer forms, one at a time and in pairs, whole and cut, in
 //! reports that are in order and in reports with another fault.
 
-use crate::compare_report::{break_header, compare_readers, header, numbers_of, records};
+use crate::compare_report::compare_readers;
 use crate::made_up_bytes::{append_in_form, longer_forms};
+use crate::made_up_report::{break_header, header, numbers_of, profile, profile_of, records};
 use crate::numbers::width;
 use crate::random::Random;
 use crate::refusals::{ACCEPTED, COUNT_OR_TYPE, ENDS, LONGER_FORM, SUM};
@@ -19,28 +20,30 @@ type Longer = (usize, usize);
 
 /// One report, in order or with a fault, in all these forms.
 pub fn round(random: &mut Random, tally: &mut Tally) -> Result<(), String> {
-    let mut header = header(random);
+    let number = profile(random);
+    let profile = profile_of(number);
+    let mut header = header(random, profile);
     let mut count = random.one_of(&[0, 1, 3]);
     match random.below(8) {
         0 => header.total ^= 1,
-        1 => header.metrics = random.between(5, 63),
-        2 => (header.metrics, header.kinds[0]) = (header.metrics.max(1), random.one_of(&[0, 3, 0x14, 63])),
+        1 => header.metrics = random.between(profile.most_metrics() as u64 + 1, 63),
+        2 => (header.metrics, header.kinds[0]) = (header.metrics.max(1), random.one_of(&[1, 3, 63])),
         3 => count = 201,
-        4 => break_header(random, &mut header),
+        4 => break_header(random, profile, &mut header),
         _ => {}
     }
-    let numbers = numbers_of(&header, count);
-    let tail = records(random, count);
-    let plain = read_report(&bytes_of(&numbers, &tail, &[])).err().unwrap_or(ACCEPTED);
+    let numbers = numbers_of(profile, &header, count);
+    let tail = records(random, profile, count);
+    let plain = read_report(number, &bytes_of(&numbers, &tail, &[])).err().unwrap_or(ACCEPTED);
     let all: Vec<Longer> = (0..numbers.len())
         .flat_map(|place| longer_forms(numbers[place]).into_iter().map(move |length| (place, length)))
         .collect();
     for (index, first) in all.iter().enumerate() {
-        let result = compare(random, tally, &bytes_of(&numbers, &tail, &[*first]))?;
-        note_one(tally, &numbers, *first, plain, result);
-        compare_cuts(random, tally, &numbers, *first)?;
+        let result = compare(random, tally, number, &bytes_of(&numbers, &tail, &[*first]))?;
+        note_one(tally, number, &numbers, *first, plain, result);
+        compare_cuts(random, tally, number, &numbers, *first)?;
         for second in all[index + 1..].iter().filter(|second| second.0 != first.0) {
-            let result = compare(random, tally, &bytes_of(&numbers, &tail, &[*first, *second]))?;
+            let result = compare(random, tally, number, &bytes_of(&numbers, &tail, &[*first, *second]))?;
             tally.note("15 for the first of two longer forms", plain == ACCEPTED && result == LONGER_FORM);
             judge(plain, result)?;
         }
@@ -61,9 +64,9 @@ fn bytes_of(numbers: &[u64], tail: &[u8], longer: &[Longer]) -> Vec<u8> {
 }
 
 /// Both readers on the same bytes; the result on which they agree.
-fn compare(random: &mut Random, tally: &mut Tally, bytes: &[u8]) -> Result<u64, String> {
-    compare_readers(random, tally, bytes)?;
-    Ok(read_report(bytes).err().unwrap_or(ACCEPTED))
+fn compare(random: &mut Random, tally: &mut Tally, profile: u64, bytes: &[u8]) -> Result<u64, String> {
+    compare_readers(random, tally, profile, bytes)?;
+    Ok(read_report(profile, bytes).err().unwrap_or(ACCEPTED))
 }
 
 /// A report that is in order but for longer forms gives 15, and no other number.
@@ -75,15 +78,16 @@ fn judge(plain: u64, result: u64) -> Result<(), String> {
 }
 
 /// The place of the number at which the report in shortest forms is refused, if its numbers bring a refusal.
-fn fault_at(numbers: &[u64]) -> Option<usize> {
-    (0..numbers.len()).find(|place| read_report(&bytes_of(&numbers[..=*place], &[], &[])).err().unwrap_or(ENDS) != ENDS)
+fn fault_at(profile: u64, numbers: &[u64]) -> Option<usize> {
+    let result = |place: usize| read_report(profile, &bytes_of(&numbers[..=place], &[], &[])).err();
+    (0..numbers.len()).find(|place| result(*place).unwrap_or(ENDS) != ENDS)
 }
 
 /// What one longer form in a report shows, whose result would be `plain` without it.
-fn note_one(tally: &mut Tally, numbers: &[u64], (place, _): Longer, plain: u64, result: u64) {
+fn note_one(tally: &mut Tally, profile: u64, numbers: &[u64], (place, _): Longer, plain: u64, result: u64) {
     tally.note("15 for one longer form alone", plain == ACCEPTED && result == LONGER_FORM);
     tally.note("11 after lost, before a 15 in the average", plain == SUM && place == AVERAGE && result == SUM);
-    if plain == ACCEPTED || fault_at(numbers) != Some(place) {
+    if plain == ACCEPTED || fault_at(profile, numbers) != Some(place) {
         return;
     }
     let refused = result == LONGER_FORM;
@@ -95,12 +99,12 @@ fn note_one(tally: &mut Tally, numbers: &[u64], (place, _): Longer, plain: u64, 
 }
 
 /// Cut inside the longer form: 2, unless an earlier number has its fault.
-fn compare_cuts(random: &mut Random, tally: &mut Tally, numbers: &[u64], longer: Longer) -> Result<(), String> {
+fn compare_cuts(random: &mut Random, tally: &mut Tally, profile: u64, numbers: &[u64], longer: Longer) -> Result<(), String> {
     let (place, length) = longer;
     let start: usize = numbers[..place].iter().map(|number| width(*number)).sum();
     let bytes = bytes_of(numbers, &[], &[longer]);
     for end in start + 1..start + length {
-        let result = compare(random, tally, &bytes[..end])?;
+        let result = compare(random, tally, profile, &bytes[..end])?;
         tally.note("2 where a longer form is cut", result == ENDS);
     }
     Ok(())

@@ -5,9 +5,9 @@ use crate::archive::{raw_header, Report, Tracker as Raw};
 use crate::made_up::{argument, up_to};
 use crate::made_up_tracker::{has_arrived, interval, raw, raw_after, tracker_of};
 use crate::numbers::LARGEST;
+use crate::profile::RECORD;
 use crate::random::Random;
 use crate::refusals::{ACCEPTED, INCONSISTENT, NO_ROOM, TOO_LARGE};
-use crate::report::RECORD;
 use crate::tally::{leaves, Call, Lent, Tally};
 use crate::tracker::{open, Known, Tracker, OBJECTS};
 

@@ -3,7 +3,7 @@
 
 use crate::example_lines::Examples;
 use crate::replay;
-use crate::{examples_counts, examples_receiver, examples_report, examples_tracker, examples_wire};
+use crate::{examples_counts, examples_profile, examples_receiver, examples_report, examples_tracker, examples_wire};
 
 pub fn run() -> Result<(), String> {
     let mut examples = Examples::default();
@@ -11,6 +11,7 @@ pub fn run() -> Result<(), String> {
     examples_receiver::check(&mut examples);
     examples_counts::check(&mut examples);
     examples_report::check(&mut examples);
+    examples_profile::check(&mut examples);
     examples_tracker::check(&mut examples);
     replays(&mut examples);
     match examples.different {

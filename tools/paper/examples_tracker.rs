@@ -2,8 +2,9 @@
 
 use crate::example_lines::Examples;
 use crate::numbers::LARGEST;
+use crate::profile::RECORD;
 use crate::refusals::{INCONSISTENT, NO_ROOM, OUTSIDE, TOO_LARGE};
-use crate::report::{read_entry, read_report, write_report, Header, RECORD};
+use crate::report::{read_entry, read_report, write_report, Header};
 use crate::tracker::{open, Known, Tracker, LATE, NOT_RECEIVED, OBJECTS, PARTIAL, RECEIVED};
 
 pub fn check(examples: &mut Examples) {
@@ -37,7 +38,7 @@ fn with(mut tracker: Tracker, arrivals: &[(u64, u64)]) -> Tracker {
 fn made(tracker: &Tracker, now: u64) -> Result<(Vec<(u64, u64, u64)>, Header), u64> {
     let mut buffer = [0; RECORD * OBJECTS as usize];
     let header = tracker.report(now, 100_000, &mut buffer)?;
-    let entries = (0..header.entries as usize).map(|index| read_entry(&buffer, index).expect("an entry obeys its rule"));
+    let entries = (0..header.entries as usize).map(|index| read_entry(1, &buffer, index).expect("an entry obeys its rule"));
     Ok((entries.map(|entry| (entry.object, entry.status, entry.age)).collect(), header))
 }
 
@@ -243,10 +244,10 @@ fn whole_reports(examples: &mut Examples) {
     let header = tracker.report(3000, 100_000, &mut entries).expect("there is room");
     let mut report = [0; 1000];
     let records = &entries[..RECORD * header.entries as usize];
-    let written = write_report(&mut report, &header, records, 200);
+    let written = write_report(1, &mut report, &header, records, 200);
     let length = written.map_or(0, |(length, _)| length);
     examples.check("tracker: its entries and summary are written", written.map(|(_, kept)| kept), Ok(21));
     let (sum, parts) = (header.total, (header.received, header.late, header.lost));
     examples.check("  total equals the three parts", (sum, parts), (21, (3, 1, 17)));
-    examples.check("  and read back", read_report(&report[..length]).map(|(header, _)| header), Ok(header));
+    examples.check("  and read back", read_report(1, &report[..length]).map(|(header, _)| header), Ok(header));
 }

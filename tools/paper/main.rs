@@ -21,6 +21,8 @@ mod compare_lent;
 #[cfg(archive)]
 mod compare_limits;
 #[cfg(archive)]
+mod compare_profiles;
+#[cfg(archive)]
 mod compare_receiver;
 mod compare_replay;
 #[cfg(archive)]
@@ -31,6 +33,7 @@ mod compare_week;
 mod example_lines;
 mod examples;
 mod examples_counts;
+mod examples_profile;
 mod examples_receiver;
 mod examples_report;
 mod examples_tracker;
@@ -41,8 +44,11 @@ mod made_up;
 #[cfg(archive)]
 mod made_up_bytes;
 #[cfg(archive)]
+mod made_up_report;
+#[cfg(archive)]
 mod made_up_tracker;
 mod numbers;
+mod profile;
 mod random;
 mod receiver;
 mod record;

@@ -34,6 +34,8 @@ pub const BELOW_ZERO: u64 = 14;
 pub const LONGER_FORM: u64 = 15;
 /// "an object outside the 256" (document 02, No. 4)
 pub const OUTSIDE: u64 = 17;
+/// "a profile other than 1 or 2" (document 02, No. 10)
+pub const OTHER_PROFILE: u64 = 18;
 /// "k is above A or A is absent" (document 02, No. 12)
 pub const NOT_ACKNOWLEDGED: u64 = 19;
 /// Document 02, No. 13: "a report longer than 8,192 bytes, which is skipped"

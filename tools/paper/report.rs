@@ -1,21 +1,18 @@
-//! Document 01, "The feedback report", with document 02, No. 5 and 8: a header of wire numbers in shortest form, then up to
-//! 200 entries, records of 16 bytes.
+//! Document 01, "The feedback report", with document 02, No. 5, 8 and 10: a header of wire numbers in shortest form, then up
+//! to 200 entries, records of the profile's size.
 
-use crate::numbers::{append, high_first, judge_numbers, put_bytes, width, Fields, LARGEST};
+use crate::numbers::{append, judge_numbers, put_bytes, width, Fields};
+use crate::profile::{judge_records, read_record, Entry, Profile};
 use crate::refusals::{BYTES_BEHIND, COUNT_OR_TYPE, ENDS, ENTRY, NO_ROOM, SUM, TOO_LARGE};
 
-/// "records of 16 bytes, no header"
-pub const RECORD: usize = 16;
 /// Document 02, No. 8: "The limit becomes 200 for both readers and the writer."
 pub const MOST_ENTRIES: u64 = 200;
 /// "old receivers, which refuse more than 50 with 10"
 pub const MOST_OF_OLD: u64 = 50;
 /// "The writer takes a header and 0 to 256 entry records."
 const MOST_RECORDS: usize = 256;
-/// "At most 4 metrics"
-const MOST_METRICS: usize = 4;
-/// "types strictly rising, from 0x02, 0x04, 0x10, 0x12"
-const TYPES: [u64; 4] = [0x02, 0x04, 0x10, 0x12];
+/// As many metrics as a profile may have.
+pub const METRICS: usize = 8;
 /// "The average is signed", "for n from -2^61 to 2^61 - 1".
 pub const SMALLEST_AVERAGE: i64 = -(1 << 61);
 pub const LARGEST_AVERAGE: i64 = (1 << 61) - 1;
@@ -33,19 +30,10 @@ pub struct Header {
     pub average: i64,
     /// How many metrics there are; kinds and values beyond are not looked at.
     pub metrics: u64,
-    pub kinds: [u64; MOST_METRICS],
-    pub values: [u64; MOST_METRICS],
+    pub kinds: [u64; METRICS],
+    pub values: [u64; METRICS],
     /// How many entries follow; the writer takes no heed of it.
     pub entries: u64,
-}
-
-#[derive(Clone, Copy, Debug, PartialEq, Eq)]
-pub struct Entry {
-    pub object: u64,
-    /// "0 received, 1 late, 2 not received, 3 partial"
-    pub status: u64,
-    /// "age in microseconds at the timestamp"
-    pub age: u64,
 }
 
 /// "n >= 0 is stored as 2n, negative n as -2n - 1"
@@ -65,23 +53,24 @@ fn restored(stored: u64) -> i64 {
 }
 
 /// Reads a whole report: the header, and the place where the entries start.
-pub fn read_report(bytes: &[u8]) -> Result<(Header, usize), u64> {
-    read_report_up_to(MOST_ENTRIES, bytes)
+pub fn read_report(profile: u64, bytes: &[u8]) -> Result<(Header, usize), u64> {
+    read_report_up_to(MOST_ENTRIES, profile, bytes)
 }
 
 /// The same by a reader that accepts so many entries; an old receiver is the one with 50.
-pub fn read_report_up_to(most: u64, bytes: &[u8]) -> Result<(Header, usize), u64> {
+pub fn read_report_up_to(most: u64, profile: u64, bytes: &[u8]) -> Result<(Header, usize), u64> {
+    let profile = Profile::of(profile)?;
     let mut fields = Fields { bytes, at: 0 };
     let mut header = read_summary(&mut fields)?;
-    read_metrics(&mut fields, &mut header)?;
+    read_metrics(profile, &mut fields, &mut header)?;
     header.entries = fields.report_number()?;
     // "in a reader 10 above 200 entries"
     if header.entries > most {
         return Err(COUNT_OR_TYPE);
     }
     // "If too few bytes remain for the entries, 2 comes before any 12; 13 is last."
-    let end = fields.at + RECORD * header.entries as usize;
-    judge_records(bytes.get(fields.at..end).ok_or(ENDS)?)?;
+    let end = fields.at + profile.record() * header.entries as usize;
+    judge_records(profile, bytes.get(fields.at..end).ok_or(ENDS)?)?;
     if end < bytes.len() {
         return Err(BYTES_BEHIND);
     }
@@ -105,12 +94,12 @@ fn read_summary(fields: &mut Fields) -> Result<Header, u64> {
 }
 
 /// "10 after each count or type"
-fn read_metrics(fields: &mut Fields, header: &mut Header) -> Result<(), u64> {
+fn read_metrics(profile: Profile, fields: &mut Fields, header: &mut Header) -> Result<(), u64> {
     header.metrics = fields.report_number()?;
-    judge_metric_count(header.metrics)?;
+    judge_metric_count(profile, header.metrics)?;
     for index in 0..header.metrics as usize {
         header.kinds[index] = fields.report_number()?;
-        judge_type(&header.kinds, index)?;
+        judge_type(profile, &header.kinds, index)?;
         header.values[index] = fields.report_number()?;
     }
     Ok(())
@@ -125,81 +114,66 @@ fn judge_sum(header: &Header) -> Result<(), u64> {
     Ok(())
 }
 
-fn judge_metric_count(count: u64) -> Result<(), u64> {
-    if count > MOST_METRICS as u64 {
+/// "10 for odd types or more than 8"; in profile 1 for more than 4.
+fn judge_metric_count(profile: Profile, count: u64) -> Result<(), u64> {
+    if count > profile.most_metrics() as u64 {
         return Err(COUNT_OR_TYPE);
     }
     Ok(())
 }
 
-fn judge_type(kinds: &[u64], index: usize) -> Result<(), u64> {
+fn judge_type(profile: Profile, kinds: &[u64], index: usize) -> Result<(), u64> {
     let rises = index == 0 || kinds[index - 1] < kinds[index];
-    if !rises || !TYPES.contains(&kinds[index]) {
+    if !rises || !profile.allows(kinds[index]) {
         return Err(COUNT_OR_TYPE);
-    }
-    Ok(())
-}
-
-/// "An entry: object number (8 bytes, high first, at most 2^62 - 1), status (1 byte: 0 received, 1 late, 2 not received,
-/// 3 partial), three zero bytes, age in microseconds at the timestamp (4 bytes; 0 where status is 2, any value otherwise)."
-fn read_record(record: &[u8]) -> Result<Entry, u64> {
-    let entry = Entry { object: high_first(&record[..8]), status: u64::from(record[8]), age: high_first(&record[12..]) };
-    let age_obeys = entry.status != 2 || entry.age == 0;
-    if entry.object > LARGEST || entry.status > 3 || record[9..12] != [0, 0, 0] || !age_obeys {
-        return Err(ENTRY);
-    }
-    Ok(entry)
-}
-
-/// Every record by itself, and "Object numbers rise strictly."
-fn judge_records(records: &[u8]) -> Result<(), u64> {
-    let mut earlier = None;
-    for record in records.chunks(RECORD) {
-        let object = Some(read_record(record)?.object);
-        if object <= earlier {
-            return Err(ENTRY);
-        }
-        earlier = object;
     }
     Ok(())
 }
 
 /// "The entries come back as a part of the caller's own bytes": where it starts, and its length. "A refused read hands back
 /// an empty part", at the end.
-pub fn find_entries(bytes: &[u8]) -> (usize, usize) {
-    let start = read_report(bytes).map_or(bytes.len(), |(_, start)| start);
+pub fn find_entries(profile: u64, bytes: &[u8]) -> (usize, usize) {
+    let start = read_report(profile, bytes).map_or(bytes.len(), |(_, start)| start);
     (start, bytes.len() - start)
 }
 
 /// One entry of that part, judged by itself.
-pub fn read_entry(entries: &[u8], index: usize) -> Result<Entry, u64> {
-    let start = index.checked_mul(RECORD).ok_or(ENDS)?;
-    let end = start.checked_add(RECORD).ok_or(ENDS)?;
-    read_record(entries.get(start..end).ok_or(ENDS)?)
+pub fn read_entry(profile: u64, entries: &[u8], index: usize) -> Result<Entry, u64> {
+    let profile = Profile::of(profile)?;
+    let start = index.checked_mul(profile.record()).ok_or(ENDS)?;
+    let end = start.checked_add(profile.record()).ok_or(ENDS)?;
+    read_record(profile, entries.get(start..end).ok_or(ENDS)?)
 }
 
 /// "The writer takes a header and 0 to 256 entry records." Gives the report's length, and how many records were kept.
-pub fn write_report(buffer: &mut [u8], header: &Header, records: &[u8], maximum: u64) -> Result<(usize, usize), u64> {
-    judge_header(header)?;
+pub fn write_report(
+    profile: u64,
+    buffer: &mut [u8],
+    header: &Header,
+    records: &[u8],
+    maximum: u64,
+) -> Result<(usize, usize), u64> {
+    let profile = Profile::of(profile)?;
+    judge_header(profile, header)?;
     // "in the writer 10 for a maximum above 200, right after the metric types"
     if maximum > MOST_ENTRIES {
         return Err(COUNT_OR_TYPE);
     }
-    judge_given_records(records)?;
+    judge_given_records(profile, records)?;
     let mut bytes = header_bytes(header);
     // "Then it keeps the longest run of last records, at most" so many, "that fits. Totals stay as given." The count is a wire
     // number, which takes room of its own; "the smallest permitted output" has no entry.
-    let most = (records.len() / RECORD).min(maximum as usize);
-    let fits = |kept: &usize| bytes.len() + width(*kept as u64) + kept * RECORD <= buffer.len();
+    let most = (records.len() / profile.record()).min(maximum as usize);
+    let fits = |kept: &usize| bytes.len() + width(*kept as u64) + kept * profile.record() <= buffer.len();
     let kept = (0..=most).rev().find(fits).ok_or(NO_ROOM)?;
     append(&mut bytes, kept as u64);
-    bytes.extend_from_slice(&records[records.len() - kept * RECORD..]);
+    bytes.extend_from_slice(&records[records.len() - kept * profile.record()..]);
     Ok((put_bytes(buffer, 0, &bytes)?, kept))
 }
 
 /// "numbers (5; metrics beyond the count or the limit are not looked at), the sum (11), metric count and types (10)"
-fn judge_header(header: &Header) -> Result<(), u64> {
-    let looked_at = header.metrics.min(MOST_METRICS as u64) as usize;
+fn judge_header(profile: Profile, header: &Header) -> Result<(), u64> {
+    let looked_at = header.metrics.min(profile.most_metrics() as u64) as usize;
     judge_numbers(&[header.timestamp, header.interval, header.total, header.received, header.late, header.lost, header.metrics])?;
     judge_numbers(&header.kinds[..looked_at])?;
     judge_numbers(&header.values[..looked_at])?;
@@ -207,19 +181,19 @@ fn judge_header(header: &Header) -> Result<(), u64> {
         return Err(TOO_LARGE);
     }
     judge_sum(header)?;
-    judge_metric_count(header.metrics)?;
-    (0..looked_at).try_for_each(|index| judge_type(&header.kinds, index))
+    judge_metric_count(profile, header.metrics)?;
+    (0..looked_at).try_for_each(|index| judge_type(profile, &header.kinds, index))
 }
 
-/// "an entry length that is no multiple of 16 (12), more than 256 records (10), each record (12)"
-fn judge_given_records(records: &[u8]) -> Result<(), u64> {
-    if records.len() % RECORD != 0 {
+/// "an entry length that is no multiple of 16 (12), more than 256 records (10), each record (12)"; of 24 in profile 2.
+fn judge_given_records(profile: Profile, records: &[u8]) -> Result<(), u64> {
+    if records.len() % profile.record() != 0 {
         return Err(ENTRY);
     }
-    if records.len() / RECORD > MOST_RECORDS {
+    if records.len() / profile.record() > MOST_RECORDS {
         return Err(COUNT_OR_TYPE);
     }
-    judge_records(records)
+    judge_records(profile, records)
 }
 
 /// The header up to the entry count.

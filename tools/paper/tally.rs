@@ -7,7 +7,7 @@ use std::collections::BTreeMap;
 use std::fmt::Debug;
 
 /// Each call with every result that it can give.
-const CAN_GIVE: [(&str, &[u64]); 27] = [
+const CAN_GIVE: [(&str, &[u64]); 33] = [
     ("open", &[0, 5, 4]),
     ("packet", &[0, 1, 5, 6, 7]),
     ("timer", &[0, 1, 5]),
@@ -27,10 +27,16 @@ const CAN_GIVE: [(&str, &[u64]); 27] = [
     ("read_ack", &[0, 2, 3, 14, 9]),
     ("put_frequency", &[0, 5, 9]),
     ("put_immediate", &[0, 9]),
-    ("read_report", &[0, 2, 10, 11, 12, 13, 15]),
+    ("read_report 1", &[0, 2, 10, 11, 12, 13, 15]),
+    ("read_report 2", &[0, 2, 10, 11, 12, 13, 15]),
+    ("read_report else", &[18]),
     ("find_entries", &[0]),
-    ("read_entry", &[0, 2, 12]),
-    ("write_report", &[0, 5, 11, 10, 12, 9]),
+    ("read_entry 1", &[0, 2, 12]),
+    ("read_entry 2", &[0, 2, 12]),
+    ("read_entry else", &[18]),
+    ("write_report 1", &[0, 5, 11, 10, 12, 9]),
+    ("write_report 2", &[0, 5, 11, 10, 12, 9]),
+    ("write_report else", &[18]),
     ("tracker_open", &[0, 5]),
     ("tracker_arrived", &[0, 1, 5, 17]),
     ("tracker_ended_early", &[0, 1, 5, 17]),
@@ -38,7 +44,7 @@ const CAN_GIVE: [(&str, &[u64]); 27] = [
 ];
 
 /// What must have happened in accepted and refused calls beyond their results.
-const MOMENTS: [&str; 91] = [
+const MOMENTS: [&str; 112] = [
     "1 for nothing but a floor above L",
     "1 for nothing but a floor while nothing was received",
     "7 though it was received and lies within 1,024 of L",
@@ -107,6 +113,27 @@ const MOMENTS: [&str; 91] = [
     "63 entries where 64 lack the count's second byte",
     "an entry more, and none dropped",
     "200 entries in every room, and with every maximum",
+    "one group and rising objects",
+    "a rising group and falling objects",
+    "a rising group and the same object",
+    "12 for equal pairs",
+    "12 for one group and falling objects",
+    "12 for a falling group and rising objects",
+    "12 for a group above 2^62 - 1",
+    "12 for an object above 2^62 - 1 in a rising group",
+    "8 metrics, unknown types among them",
+    "10 for 9 metrics",
+    "10 for an odd type",
+    "10 for falling types",
+    "10 for a type twice",
+    "type 0 accepted",
+    "unknown types shown with their values",
+    "8 metrics refused in profile 1",
+    "18 for profile 0",
+    "18 for profile 3",
+    "18 for profile 2^64 - 1",
+    "18 before 5",
+    "18 before 2",
     "1 for nothing but the last of the 256",
     "1 for nothing but the interval",
     "1 where no first arrival is named though one arrived",

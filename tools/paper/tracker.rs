@@ -1,8 +1,9 @@
 //! Document 02, No. 4: the tracker of object statuses, over the 256 object numbers from a first one.
 
 use crate::numbers::{judge_numbers, LARGEST};
+use crate::profile::{Entry, RECORD};
 use crate::refusals::{ENTRY, INCONSISTENT, NO_ROOM, OUTSIDE, TOO_LARGE};
-use crate::report::{Entry, Header, LARGEST_AVERAGE, RECORD, SMALLEST_AVERAGE};
+use crate::report::{Header, LARGEST_AVERAGE, SMALLEST_AVERAGE};
 use std::collections::BTreeMap;
 
 /// "the 256 object numbers from a given first one"
@@ -144,8 +145,14 @@ impl Tracker {
 
     /// "over all objects with a status"
     fn entries(&self, now: u64) -> Vec<Entry> {
-        let entry =
-            |place| self.status(place, now).map(|status| Entry { object: self.first + place, status, age: self.age(place, now) });
+        let entry = |place| {
+            self.status(place, now).map(|status| Entry {
+                group: 0,
+                object: self.first + place,
+                status,
+                age: self.age(place, now),
+            })
+        };
         (0..OBJECTS).filter_map(entry).collect()
     }
 
@@ -186,7 +193,7 @@ impl Tracker {
     }
 }
 
-/// "object number (8 bytes, high first ..), status (1 byte ..), three zero bytes, age in microseconds (4 bytes ..)"
+/// A record of profile 1: "object number (8 bytes, high first ..), status (1 byte ..), three zero bytes, age in microseconds (4 bytes ..)"
 fn record_of(entry: &Entry) -> Result<[u8; RECORD], u64> {
     let age = u32::try_from(entry.age).map_err(|_| ENTRY)?;
     let mut record = [0; RECORD];

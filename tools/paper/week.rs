@@ -1,11 +1,14 @@
 //! Document 02, No. 13, "The week's totals": one page over a file of reports.
 
 use crate::numbers::high_first;
+use crate::profile::RECORD;
 use crate::refusals::{ENDS, TOO_LONG};
-use crate::report::{read_entry, read_report, RECORD};
+use crate::report::{read_entry, read_report};
 use std::collections::BTreeMap;
 use std::io::{self, Read, Write};
 
+/// "a file of profile 1 reports"
+pub const PROFILE: u64 = 1;
 /// "each after a four-byte length with the high byte first"
 const LENGTH: usize = 4;
 /// "20 for a report longer than 8,192 bytes, which is skipped"
@@ -34,7 +37,7 @@ impl Week {
 
     /// One report, of at most 8,192 bytes.
     fn add(&mut self, report: &[u8]) {
-        let (header, start) = match read_report(report) {
+        let (header, start) = match read_report(PROFILE, report) {
             Ok(read) => read,
             Err(number) => return self.refuse(number),
         };
@@ -44,7 +47,7 @@ impl Week {
         self.late += u128::from(header.late);
         self.lost += u128::from(header.lost);
         for index in 0..report[start..].len() / RECORD {
-            let entry = read_entry(&report[start..], index).expect("an accepted report has good entries");
+            let entry = read_entry(PROFILE, &report[start..], index).expect("an accepted report has good entries");
             self.statuses[entry.status as usize] += 1;
         }
     }

@@ -1,10 +1,11 @@
 //! Made-up files for the week's totals: reports that are accepted, damaged, cut and too long, and files that end early.
 
 use crate::numbers::{append, LARGEST};
+use crate::profile::RECORD;
 use crate::random::Random;
-use crate::report::{write_report, Header, MOST_ENTRIES, RECORD};
+use crate::report::{write_report, Header, MOST_ENTRIES};
 use crate::traces::Input;
-use crate::week::LONGEST;
+use crate::week::{LONGEST, PROFILE};
 
 /// What a week is made of; each comes in turn.
 const WEEKS: [&str; 13] = [
@@ -74,7 +75,7 @@ fn header(random: &mut Random, largest: u64) -> Header {
 
 fn written(header: &Header, records: &[u8]) -> Vec<u8> {
     let mut buffer = [0; 4000];
-    let (length, _) = write_report(&mut buffer, header, records, MOST_ENTRIES).expect("a header that the writer takes");
+    let (length, _) = write_report(PROFILE, &mut buffer, header, records, MOST_ENTRIES).expect("a header that the writer takes");
     buffer[..length].to_vec()
 }
 

@@ -31,6 +31,7 @@ extern crate std;
 
 mod frames;
 mod marks;
+mod profile;
 pub mod raw;
 mod receiver;
 mod refusal;
@@ -39,9 +40,10 @@ mod tracker;
 
 pub use frames::{read_number, write_number, Ack, Frequency, Immediate};
 pub use marks::{Counts, Mark, Totals};
+pub use profile::{Metrics, Profile, Record};
 pub use receiver::{Heard, Packet, Receiver};
 pub use refusal::{Cause, Refusal};
-pub use report::{Entries, Entry, Header, Metrics, Report, Status, Written};
+pub use report::{Entries, Entry, Header, Report, Status, Written};
 pub use tracker::{Made, Tracker, TRACKED};
 
 /// Microseconds: times, the minimum delay, and the delay in force.
@@ -61,8 +63,11 @@ pub const ACK_ROOM: usize = 1066;
 /// Bytes that hold every ACK_FREQUENCY frame.
 pub const FREQUENCY_ROOM: usize = 34;
 
-/// Bytes that hold every report: four metrics and 200 entries.
+/// Bytes that hold every report of profile 1: four metrics and 200 entries.
 pub const REPORT_ROOM: usize = 3295;
+
+/// Bytes that hold every report of profile 2: eight metrics and 200 entries.
+pub const REPORT_2_ROOM: usize = 4987;
 
 /// How many entries a report may have.
 pub const ENTRIES: u64 = 200;

@@ -148,8 +148,8 @@ pub struct Header {
     pub lost: u64,
     pub average: i64,
     pub metrics: u64,
-    pub kinds: [u64; 4],
-    pub values: [u64; 4],
+    pub kinds: [u64; 8],
+    pub values: [u64; 8],
     pub entries: u64,
 }
 
@@ -171,12 +171,13 @@ pub struct Entries {
     pub length: u64,
 }
 
-/// `lumbixet_entry`: one entry.
+/// `lumbixet_entry`: one entry; its group is 0 in profile 1.
 #[repr(C)]
 #[derive(Clone, Copy, Debug, Default, PartialEq, Eq)]
 #[allow(missing_docs)]
 pub struct EntryFound {
     pub result: u64,
+    pub group: u64,
     pub object: u64,
     pub status: u64,
     pub age: u64,
@@ -230,10 +231,11 @@ extern "C" {
     pub fn lumbixet_packet_lent(receiver: *mut Receiver, number: u64, time_us: u64, eliciting: bool, ecn: u64) -> u64;
     pub fn lumbixet_timer_lent(receiver: *mut Receiver, time_us: u64) -> u64;
     pub fn lumbixet_write_lent(receiver: *mut Receiver, time_us: u64, counts: bool, buffer: *mut u8, length: usize) -> WroteLent;
-    pub fn lumbixet_read_report(bytes: *const u8, length: usize) -> Report;
-    pub fn lumbixet_find_entries(bytes: *const u8, length: usize) -> Entries;
-    pub fn lumbixet_read_entry(entries: *const u8, length: usize, index: usize) -> EntryFound;
+    pub fn lumbixet_read_report(profile: u64, bytes: *const u8, length: usize) -> Report;
+    pub fn lumbixet_find_entries(profile: u64, bytes: *const u8, length: usize) -> Entries;
+    pub fn lumbixet_read_entry(profile: u64, entries: *const u8, length: usize, index: usize) -> EntryFound;
     pub fn lumbixet_write_report(
+        profile: u64,
         buffer: *mut u8,
         length: usize,
         header: Header,

@@ -38,6 +38,8 @@ pub enum Refusal {
     LongerForm,
     /// 17: the object is none of the 256 that are tracked.
     Outside,
+    /// 18: the report's profile is neither 1 nor 2; [`Profile`](crate::Profile) has no other, so no call of this crate gives it.
+    OtherProfile,
     /// 19: the confirmed number is above the largest acknowledged, or none is acknowledged.
     NotAcknowledged,
     /// A number that this version does not name; the archive that goes with it gives none.
@@ -47,7 +49,7 @@ pub enum Refusal {
 use Refusal::*;
 
 /// Each with its number and its words.
-const REFUSALS: [(u64, Refusal, &str); 17] = [
+const REFUSALS: [(u64, Refusal, &str); 18] = [
     (1, Inconsistent, "the record is not consistent"),
     (2, Ends, "the bytes end inside a field"),
     (3, OtherType, "the frame type is another one"),
@@ -64,6 +66,7 @@ const REFUSALS: [(u64, Refusal, &str); 17] = [
     (14, BelowZero, "a range goes below number 0"),
     (15, LongerForm, "a number is not in its shortest form"),
     (17, Outside, "the object is none of those tracked"),
+    (18, OtherProfile, "the profile is another one"),
     (19, NotAcknowledged, "this number was not acknowledged yet"),
 ];
 

@@ -1,5 +1,6 @@
 //! The feedback report, read and written.
 
+use crate::profile::{Metrics, Profile, Record};
 use crate::raw;
 use crate::refusal::accepted;
 use crate::{Micros, Refusal};
@@ -25,31 +26,16 @@ pub struct Header {
     pub metrics: Metrics,
 }
 
-/// The optional metrics of a report, each at most once.
-#[derive(Clone, Copy, Debug, Default, PartialEq, Eq)]
-pub struct Metrics {
-    /// 0x02, PLAYOUT_AHEAD_MS: remaining time until playback stalls, in milliseconds.
-    pub playout_ahead_ms: Option<u64>,
-    /// 0x04, ESTIMATED_BANDWIDTH_KBPS: estimated bandwidth at the receiver, in kilobits per second.
-    pub estimated_bandwidth_kbps: Option<u64>,
-    /// 0x10, PEER_RTT_US: the receiver's smoothed round-trip time, in microseconds.
-    pub peer_rtt_us: Option<u64>,
-    /// 0x12, PEER_LOSS_RATE: the receiver's packet loss rate within the interval, per mille.
-    pub peer_loss_per_mille: Option<u64>,
-}
-
-/// The metric types in their rising order.
-const KINDS: [u64; 4] = [0x02, 0x04, 0x10, 0x12];
-
 impl Header {
     /// Writes a report at the start of the buffer: the header, then the longest run of last records, at most
-    /// [`ENTRIES`](crate::ENTRIES), that fits. 0 to 256 records may be given.
-    /// [`REPORT_ROOM`](crate::REPORT_ROOM) bytes always suffice.
+    /// [`ENTRIES`](crate::ENTRIES), that fits. 0 to 256 records may be given, and their size says which profile the report
+    /// has. [`REPORT_ROOM`](crate::REPORT_ROOM) bytes always suffice for profile 1,
+    /// [`REPORT_2_ROOM`](crate::REPORT_2_ROOM) for profile 2.
     ///
     /// # Errors
-    /// [`Refusal::TooLarge`], [`Refusal::Sum`], [`Refusal::CountOrType`] for more than 256 records,
+    /// [`Refusal::TooLarge`], [`Refusal::Sum`], [`Refusal::CountOrType`] for the metrics or more than 256 records,
     /// [`Refusal::Entry`], [`Refusal::NoRoom`].
-    pub fn write<'a>(&self, buffer: &'a mut [u8], records: &[[u8; 16]]) -> Result<Written<'a>, Refusal> {
+    pub fn write<'a, R: Record>(&self, buffer: &'a mut [u8], records: &[R]) -> Result<Written<'a>, Refusal> {
         self.write_at_most(crate::ENTRIES, buffer, records)
     }
 
@@ -58,10 +44,15 @@ impl Header {
     ///
     /// # Errors
     /// Those of [`write`](Header::write), and [`Refusal::CountOrType`] for a maximum above [`ENTRIES`](crate::ENTRIES).
-    pub fn write_at_most<'a>(&self, maximum: u64, buffer: &'a mut [u8], records: &[[u8; 16]]) -> Result<Written<'a>, Refusal> {
-        let (start, length, header) = (buffer.as_mut_ptr(), buffer.len(), self.to_raw());
-        let (first, size) = (records.as_ptr().cast(), 16 * records.len());
-        let written = unsafe { raw::lumbixet_write_report(start, length, header, first, size, maximum) };
+    pub fn write_at_most<'a, R: Record>(
+        &self,
+        maximum: u64,
+        buffer: &'a mut [u8],
+        records: &[R],
+    ) -> Result<Written<'a>, Refusal> {
+        let (profile, start, length) = (R::PROFILE.number(), buffer.as_mut_ptr(), buffer.len());
+        let (header, first, size) = (self.to_raw(), records.as_ptr().cast(), core::mem::size_of_val(records));
+        let written = unsafe { raw::lumbixet_write_report(profile, start, length, header, first, size, maximum) };
         accepted(written.result)?;
         Ok(Written { bytes: &buffer[..written.next as usize], kept: written.kept as usize })
     }
@@ -71,36 +62,15 @@ impl Header {
         let mut header = raw::Header { total, received, late, lost, average, ..raw::Header::default() };
         header.timestamp = timestamp.0;
         header.interval = interval.0;
-        for (kind, value) in KINDS.iter().zip(metrics.values()) {
-            if let Some(value) = value {
-                header.kinds[header.metrics as usize] = *kind;
-                header.values[header.metrics as usize] = value;
-                header.metrics += 1;
-            }
-        }
+        (header.metrics, header.kinds, header.values) = metrics.parts();
         header
     }
 
     pub(crate) fn from_raw(header: &raw::Header) -> Header {
         let raw::Header { timestamp, interval, total, received, late, lost, average, .. } = *header;
-        let value = |kind| {
-            let given = header.kinds.iter().zip(&header.values).take(header.metrics as usize);
-            given.filter(|(own, _)| **own == kind).map(|(_, value)| *value).next()
-        };
-        let metrics = Metrics {
-            playout_ahead_ms: value(KINDS[0]),
-            estimated_bandwidth_kbps: value(KINDS[1]),
-            peer_rtt_us: value(KINDS[2]),
-            peer_loss_per_mille: value(KINDS[3]),
-        };
+        let metrics = Metrics::from_parts(header.metrics, &header.kinds, &header.values);
         let (timestamp, interval) = (Micros(timestamp), Micros(interval));
         Header { timestamp, interval, total, received, late, lost, average, metrics }
-    }
-}
-
-impl Metrics {
-    fn values(&self) -> [Option<u64>; 4] {
-        [self.playout_ahead_ms, self.estimated_bandwidth_kbps, self.peer_rtt_us, self.peer_loss_per_mille]
     }
 }
 
@@ -124,23 +94,24 @@ pub struct Report<'a> {
 }
 
 impl<'a> Report<'a> {
-    /// Reads a whole report.
+    /// Reads a whole report of a profile.
     ///
     /// # Errors
     /// [`Refusal::Ends`], [`Refusal::LongerForm`], [`Refusal::CountOrType`], [`Refusal::Sum`], [`Refusal::Entry`],
     /// [`Refusal::BytesBehind`].
-    pub fn read(bytes: &'a [u8]) -> Result<Report<'a>, Refusal> {
-        let report = unsafe { raw::lumbixet_read_report(bytes.as_ptr(), bytes.len()) };
+    pub fn read(profile: Profile, bytes: &'a [u8]) -> Result<Report<'a>, Refusal> {
+        let report = unsafe { raw::lumbixet_read_report(profile.number(), bytes.as_ptr(), bytes.len()) };
         accepted(report.result)?;
-        let part = unsafe { raw::lumbixet_find_entries(bytes.as_ptr(), bytes.len()) };
-        let entries = Entries { bytes: &bytes[part.start as usize..][..part.length as usize] };
+        let part = unsafe { raw::lumbixet_find_entries(profile.number(), bytes.as_ptr(), bytes.len()) };
+        let entries = Entries { profile, bytes: &bytes[part.start as usize..][..part.length as usize] };
         Ok(Report { header: Header::from_raw(&report.header), entries })
     }
 }
 
-/// The entries of a report, 16 bytes each.
+/// The entries of a report, each of its profile's size.
 #[derive(Clone, Copy, Debug, PartialEq, Eq)]
 pub struct Entries<'a> {
+    profile: Profile,
     bytes: &'a [u8],
 }
 
@@ -154,7 +125,7 @@ impl<'a> Entries<'a> {
     /// How many there are.
     #[must_use]
     pub fn len(&self) -> usize {
-        self.bytes.len() / 16
+        self.bytes.len() / self.profile.record_size()
     }
 
     /// Whether there is none.
@@ -166,13 +137,13 @@ impl<'a> Entries<'a> {
     /// One of them; `None` from [`len`](Entries::len) on.
     #[must_use]
     pub fn get(&self, index: usize) -> Option<Entry> {
-        Entry::read(self.bytes, index).ok()
+        Entry::read(self.profile, self.bytes, index).ok()
     }
 
-    /// All of them, by rising object number.
+    /// All of them, by rising object number; in profile 2 by rising group, then object.
     pub fn iter(&self) -> impl Iterator<Item = Entry> + 'a {
-        let bytes = self.bytes;
-        (0..self.len()).filter_map(move |index| Entry::read(bytes, index).ok())
+        let Entries { profile, bytes } = *self;
+        (0..self.len()).filter_map(move |index| Entry::read(profile, bytes, index).ok())
     }
 }
 
@@ -192,6 +163,8 @@ pub enum Status {
 /// One entry of a report.
 #[derive(Clone, Copy, Debug, PartialEq, Eq)]
 pub struct Entry {
+    /// The object's group, at most 2^62 - 1; 0 in profile 1.
+    pub group: u64,
     /// The object's number, at most 2^62 - 1.
     pub object: u64,
     /// What became of it.
@@ -201,12 +174,12 @@ pub struct Entry {
 }
 
 impl Entry {
-    /// Reads record `index` of records in a row, each by itself; that object numbers rise, [`Report::read`] judges.
+    /// Reads record `index` of a profile's records in a row, each by itself; that they rise, [`Report::read`] judges.
     ///
     /// # Errors
     /// [`Refusal::Ends`], [`Refusal::Entry`].
-    pub fn read(records: &[u8], index: usize) -> Result<Entry, Refusal> {
-        let entry = unsafe { raw::lumbixet_read_entry(records.as_ptr(), records.len(), index) };
+    pub fn read(profile: Profile, records: &[u8], index: usize) -> Result<Entry, Refusal> {
+        let entry = unsafe { raw::lumbixet_read_entry(profile.number(), records.as_ptr(), records.len(), index) };
         accepted(entry.result)?;
         let status = match entry.status {
             0 => Status::Received,
@@ -214,16 +187,25 @@ impl Entry {
             2 => Status::NotReceived,
             _ => Status::Partial,
         };
-        Ok(Entry { object: entry.object, status, age: entry.age as u32 })
+        Ok(Entry { group: entry.group, object: entry.object, status, age: entry.age as u32 })
     }
 
-    /// The record of 16 bytes that [`Header::write`] takes; that judges it.
+    /// The record of profile 1, which has no group, as [`Header::write`] takes it; that judges it.
     #[must_use]
     pub fn record(&self) -> [u8; 16] {
         let mut record = [0; 16];
         record[..8].copy_from_slice(&self.object.to_be_bytes());
         record[8] = self.status as u8;
         record[12..].copy_from_slice(&self.age.to_be_bytes());
+        record
+    }
+
+    /// The record of profile 2, which begins with the group.
+    #[must_use]
+    pub fn record_with_group(&self) -> [u8; 24] {
+        let mut record = [0; 24];
+        record[..8].copy_from_slice(&self.group.to_be_bytes());
+        record[8..].copy_from_slice(&self.record());
         record
     }
 }

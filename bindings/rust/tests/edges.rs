@@ -26,14 +26,14 @@ fn empty_slices() {
     assert_eq!(Immediate.write(&mut []), Err(Refusal::NoRoom));
     assert_eq!(Ack::read(&[], &mut []), Err(Refusal::Ends));
     assert_eq!(Ack::read(&[0x02, 0, 0, 0, 0], &mut []), Err(Refusal::NoRoom));
-    assert_eq!(Report::read(&[]), Err(Refusal::Ends));
-    assert_eq!(Report::read(&[0, 0, 0, 0, 0, 0, 0, 0, 0x40, 0]), Err(Refusal::LongerForm));
-    assert_eq!(Entry::read(&[], 0), Err(Refusal::Ends));
-    assert_eq!(Header::default().write(&mut [], &[]), Err(Refusal::NoRoom));
+    assert_eq!(Report::read(Profile::One, &[]), Err(Refusal::Ends));
+    assert_eq!(Report::read(Profile::One, &[0, 0, 0, 0, 0, 0, 0, 0, 0x40, 0]), Err(Refusal::LongerForm));
+    assert_eq!(Entry::read(Profile::Two, &[], 0), Err(Refusal::Ends));
+    assert_eq!(Header::default().write::<[u8; 16]>(&mut [], &[]), Err(Refusal::NoRoom));
     let mut buffer = [0; REPORT_ROOM];
-    let written = Header::default().write(&mut buffer, &[]).unwrap();
+    let written = Header::default().write::<[u8; 24]>(&mut buffer, &[]).unwrap();
     assert_eq!((written.bytes, written.kept), (&[0; 9][..], 0));
-    assert!(Report::read(written.bytes).unwrap().entries.is_empty());
+    assert!(Report::read(Profile::One, written.bytes).unwrap().entries.is_empty());
 }
 
 #[test]
@@ -48,7 +48,7 @@ fn numbers_and_rest() {
 /// Each number has a name, and the name its number; words and numbers are those of the C header.
 #[test]
 fn names_are_the_headers() {
-    for number in (1..16).chain([17, 19]) {
+    for number in (1..16).chain(17..20) {
         let refusal = Refusal::from_number(number);
         assert_eq!(refusal.number(), number);
         assert!(HEADERS.contains(&format!("\"{refusal}\"")), "the header has other words than: {refusal}");
@@ -66,6 +66,7 @@ fn names_are_the_headers() {
         format!("#define LUMBIXET_ACK_ROOM {ACK_ROOM}"),
         format!("#define LUMBIXET_FREQUENCY_ROOM {FREQUENCY_ROOM}"),
         format!("#define LUMBIXET_REPORT_ROOM {REPORT_ROOM}"),
+        format!("#define LUMBIXET_REPORT_2_ROOM {REPORT_2_ROOM}"),
         format!("#define LUMBIXET_ENTRIES {ENTRIES}\n"),
         format!("#define LUMBIXET_OLD_ENTRIES {OLD_ENTRIES}\n"),
         format!("#define LUMBIXET_TRACKED {TRACKED}\n"),
@@ -150,34 +151,34 @@ fn marks_are_counted() {
 /// Every metric by a value of its own, and a status of each kind.
 #[test]
 fn a_whole_report() {
-    let metrics = Metrics { playout_ahead_ms: Some(51), peer_loss_per_mille: Some(54), ..Metrics::default() };
+    let metrics = Metrics::of(&[(Metrics::PLAYOUT_AHEAD_MS, 51), (Metrics::PEER_LOSS_RATE, 54)]);
     let header = Header { timestamp: Micros(1001), interval: Micros(1002), average: -7, metrics, ..Header::default() };
     let header = Header { total: 60, received: 10, late: 20, lost: 30, ..header };
     let all = [Status::Received, Status::Late, Status::NotReceived, Status::Partial];
     let age = |status| if status == Status::NotReceived { 0 } else { 256 };
-    let entries = [0, 1, 2, 3].map(|i| Entry { object: 7 + i as u64, status: all[i], age: age(all[i]) });
+    let entries = [0, 1, 2, 3].map(|i| Entry { group: 0, object: 7 + i as u64, status: all[i], age: age(all[i]) });
     let mut buffer = [0; REPORT_ROOM];
     let written = header.write(&mut buffer, &entries.map(|entry| entry.record())).unwrap();
-    let report = Report::read(written.bytes).unwrap();
+    let report = Report::read(Profile::One, written.bytes).unwrap();
     assert_eq!(report.header, header);
     assert!(report.entries.iter().eq(entries));
     assert_eq!((report.entries.len(), report.entries.get(1), report.entries.get(4)), (4, Some(entries[1]), None));
     // the timestamp, 1001 in two bytes, stands in four: an equal report in other bytes
     let longer = [&[0x80, 0, 0x03, 0xe9][..], &written.bytes[2..]].concat();
-    assert_eq!(Report::read(&longer), Err(Refusal::LongerForm));
+    assert_eq!(Report::read(Profile::One, &longer), Err(Refusal::LongerForm));
     let sum = Header { lost: 31, ..header };
-    assert_eq!(sum.write(&mut buffer, &[]), Err(Refusal::Sum));
+    assert_eq!(sum.write::<[u8; 16]>(&mut buffer, &[]), Err(Refusal::Sum));
 }
 
 /// From 64 entries on the count takes two bytes; 200 are the most, and for an old receiver 50 are kept, the last ones.
 #[test]
 fn long_reports() {
-    let records: Vec<_> = (0..256).map(|object| Entry { object, status: Status::Received, age: 9 }.record()).collect();
+    let records: Vec<_> = (0..256).map(|object| Entry { group: 0, object, status: Status::Received, age: 9 }.record()).collect();
     let mut buffer = [0; REPORT_ROOM];
     for (count, length) in [(63, 9 + 63 * 16), (64, 10 + 64 * 16), (200, 10 + 200 * 16), (201, 10 + 200 * 16)] {
         let written = Header::default().write(&mut buffer, &records[..count]).unwrap();
         assert_eq!((written.bytes.len(), written.kept), (length, count.min(200)));
-        let entries = Report::read(written.bytes).unwrap().entries;
+        let entries = Report::read(Profile::One, written.bytes).unwrap().entries;
         assert_eq!((entries.len(), entries.get(0).unwrap().object), (written.kept, count as u64 - written.kept as u64));
     }
     for (maximum, kept) in [(0, 0), (OLD_ENTRIES, 50), (ENTRIES, 200)] {

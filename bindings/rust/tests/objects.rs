@@ -16,7 +16,7 @@ fn told(tracker: &Tracker, time: u64) -> (String, [u64; 4], i64) {
     let made = tracker.report(Micros(time), Micros(100000), &mut room).unwrap();
     let mut strip = vec!['.'; 8];
     for record in made.records {
-        let entry = Entry::read(record, 0).unwrap();
+        let entry = Entry::read(Profile::One, record, 0).unwrap();
         strip[(entry.object - FIRST) as usize] = match entry.status {
             Status::Received => 'R',
             Status::Late => 'L',
@@ -27,7 +27,7 @@ fn told(tracker: &Tracker, time: u64) -> (String, [u64; 4], i64) {
     let header = made.header;
     let mut buffer = [0; REPORT_ROOM];
     let written = header.write(&mut buffer, made.records).unwrap();
-    assert_eq!(Report::read(written.bytes).unwrap().header, header);
+    assert_eq!(Report::read(Profile::One, written.bytes).unwrap().header, header);
     (strip.iter().collect(), [header.total, header.received, header.late, header.lost], header.average)
 }
 

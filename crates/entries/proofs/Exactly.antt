@@ -8,20 +8,25 @@ use mathlib.Core.List.{List}
 use native.Mathlib.Nat.{zero-add}
 use native.Mathlib.Numerals.{add-one}
 use native.Mathlib.Omega.{arith}
-use borrow.Author.Tests.{le-leb, leb-true, leb-false, eqb-true, eqb-false}
+use borrow.Author.Tests.{leb-true, leb-false, eqb-true, eqb-false}
 use lib.Dec.{leb, eqb}
 use lib.ListN.{length, drop, length-take, length-drop}
 use Rattle.wire.specs.Bytes.{pick}
 use Rattle.wire.proofs.Lengths.{split}
-use Rattle.entries.specs.Limits.{recordSize, mostGiven}
-use Rattle.entries.specs.Entries.{objectOf, recordAt, entryAt, follows, recordsGood, entriesGood, entriesFault}
+use Rattle.entries.specs.Limits.{entrySize, mostGiven}
+use Rattle.entries.specs.Profiles.{recordSize, numberOf, Other}
+use Rattle.entries.specs.Entries.{groupOf, behind, objectOf, recordAt, entryAt, entryBy, atOrAbove, follows, recordsGood, entriesGood, entriesFault}
 use Rattle.entries.specs.Refusals.{entryRefusal}
-use Rattle.entries.specs.Exactly.{EntryRows, EntryReads, Obeys, EntriesJudged, FaultRows, FaultJudged}
+use Rattle.entries.specs.Exactly.{Right, EndsBefore, There, EntryRows, EntryReads, Below, Obeys, EntriesJudged, FaultRows, FaultJudged}
+use Rattle.entries.specs.declared.Profile.{Profile}
 use Rattle.entries.specs.declared.Status.{Status}
 use Rattle.entries.specs.declared.Entry.{Entry}
-use Rattle.entries.specs.declared.Entry.the-variants.{Record, Ends, Broken}
-use Rattle.entries.proofs.Records.{turn, done}
-use Rattle.entries.proofs.Verdicts.{Verdict, short, wrong, right, verdict, object-is}
+use Rattle.entries.specs.declared.Entry.the-variants.{Record, Ends, Broken, OtherProfile}
+use Rattle.entries.proofs.Sizes.{step}
+use Rattle.entries.proofs.Profiles.{Which, known, other as unknown, which, of-known, of-other, in-this}
+use Rattle.entries.proofs.Order.{below, above-below, first-above}
+use Rattle.entries.proofs.Records.{rest, turn, done, from-start}
+use Rattle.entries.proofs.Verdicts.{Verdict, short, wrong, right, verdict, key-is}
 
 -- two different numerals are not equal
 other : {A : Type 0} (m n : ℕ) → eqb m n ≡ false → m ≡ n → A
@@ -32,143 +37,174 @@ never e = let z : _≡_ {A = ℕ} 0 1 = cc in absurd (omega arith)
 
 -- ---- one entry
 
-module _ (s : List ℕ) (i : ℕ) where
-  inside : length (recordAt s i) < recordSize → length s < suc i * recordSize
-  inside h = omega (arith, simp (length-take, length-drop) at h)
+module _ (profile : ℕ) (s : List ℕ) (i : ℕ) where
+  module _ (p : Profile) (k : profile ≡ numberOf p) where
+    -- the bytes behind the group are too few exactly where the record is
+    inside : length (behind p (recordAt p s i)) < entrySize → EndsBefore p s i
+    inside h = let e = step (recordSize p) i in omega (arith, simp (length-take, length-drop) at h)
 
-  there : recordSize ≤ length (recordAt s i) → suc i * recordSize ≤ length s
-  there h = omega (arith, simp (length-take, length-drop) at h)
+    there : entrySize ≤ length (behind p (recordAt p s i)) → There p s i
+    there h = let e = step (recordSize p) i in omega (arith, simp (length-take, length-drop) at h)
 
-  rows : (e : Entry) → Verdict (recordAt s i) e → EntryRows s i (entryRefusal e)
-  rows e (short h) =
-      let l = inside h in
-      record {
-        two = (λ q. l, λ q. refl);
-        twelve = (other 2 12 refl, λ q. absurd (omega (arith, q .0)));
-        accepted = (other 2 0 refl, λ q. absurd (omega (arith, q .0)));
-        others = inr (inl refl);
-      }
-  rows e (wrong h n) =
-      let l = there h in
-      record {
-        two = (other 12 2 refl, λ q. absurd (omega arith));
-        twelve = (λ q. (l, n), λ q. refl);
-        accepted = (other 12 0 refl, λ q. absurd (n (q .1)));
-        others = inr (inr (inl refl));
-      }
-  rows e (right h r) =
-      let l = there h in
-      record {
-        two = (other 0 2 refl, λ q. absurd (omega arith));
-        twelve = (other 0 12 refl, λ q. absurd (q .1 r));
-        accepted = (λ q. (l, r), λ q. refl);
-        others = inl refl;
-      }
+    rows : (e : Entry) → Verdict p (recordAt p s i) e → EntryRows profile s i (entryRefusal e)
+    rows e (short h) =
+        let l = inside h in
+        record {
+          eighteen = (other 2 18 refl, λ o. absurd (o p k));
+          two = (λ q. record { profile = p; number = k; holds = l }, λ q. refl);
+          twelve = (other 2 12 refl, λ q. absurd (omega (arith, in-this profile (λ p. There p s i × (Right p (recordAt p s i) → ⊥)) p k q .0)));
+          accepted = (other 2 0 refl, λ q. absurd (omega (arith, in-this profile (λ p. There p s i × Right p (recordAt p s i)) p k q .0)));
+          others = inr (inl refl);
+        }
+    rows e (wrong h n) =
+        let l = there h in
+        record {
+          eighteen = (other 12 18 refl, λ o. absurd (o p k));
+          two = (other 12 2 refl, λ q. absurd (omega (arith, in-this profile (λ p. EndsBefore p s i) p k q)));
+          twelve = (λ q. record { profile = p; number = k; holds = (l, n) }, λ q. refl);
+          accepted = (other 12 0 refl, λ q. absurd (n (in-this profile (λ p. There p s i × Right p (recordAt p s i)) p k q .1)));
+          others = inr (inr (inl refl));
+        }
+    rows e (right h r) =
+        let l = there h in
+        record {
+          eighteen = (other 0 18 refl, λ o. absurd (o p k));
+          two = (other 0 2 refl, λ q. absurd (omega (arith, in-this profile (λ p. EndsBefore p s i) p k q)));
+          twelve = (other 0 12 refl, λ q. absurd (in-this profile (λ p. There p s i × (Right p (recordAt p s i) → ⊥)) p k q .1 r));
+          accepted = (λ q. record { profile = p; number = k; holds = (l, r) }, λ q. refl);
+          others = inl refl;
+        }
+
+  no-rows : Other profile → EntryRows profile s i 18
+  no-rows o = record {
+    eighteen = (λ q. o, λ q. refl);
+    two = (other 18 2 refl, λ q. absurd (o (q .profile) (q .number)));
+    twelve = (other 18 12 refl, λ q. absurd (o (q .profile) (q .number)));
+    accepted = (other 18 0 refl, λ q. absurd (o (q .profile) (q .number)));
+    others = inr (inr (inr (inl refl)));
+  }
+
+  by-profile : Which profile → EntryRows profile s i (entryRefusal (entryBy profile s i))
+  by-profile (known p k) = rw (of-known profile OtherProfile (λ p. entryAt p s i) p k) (rows p k (entryAt p s i) (verdict p (recordAt p s i)))
+  by-profile (unknown o) = rw (of-other profile OtherProfile (λ p. entryAt p s i) o) (no-rows o)
 
 pub entry-reads : EntryReads
-entry-reads s i = rows s i (entryAt s i) (verdict (recordAt s i))
+entry-reads profile s i = by-profile profile s i (which profile)
 
 -- ---- records in a row
 
--- one past the object number before record i
-before : List ℕ → ℕ → ℕ
-before s zero = 0
-before s (suc j) = suc (objectOf (recordAt s j))
+-- what the record before record i leaves: its group, and one past its object number
+groupBefore : Profile → List ℕ → ℕ → ℕ
+groupBefore p s zero = 0
+groupBefore p s (suc j) = groupOf p (recordAt p s j)
 
-risen : (s : List ℕ) (i object : ℕ) → before s i ≤ object → (j : ℕ) → suc j ≡ i → objectOf (recordAt s j) < object
-unfolding before
-risen s i object h j e = rw (sym e) at h
+objectBefore : Profile → List ℕ → ℕ → ℕ
+objectBefore p s zero = 0
+objectBefore p s (suc j) = suc (objectOf (behind p (recordAt p s j)))
 
-rises-from : (s : List ℕ) (i object : ℕ) → ((j : ℕ) → suc j ≡ i → objectOf (recordAt s j) < object) → before s i ≤ object
-unfolding before
-rises-from s zero object f = zero-le
-rises-from s (suc j) object f = f j refl
+abbrev Rises : Profile → List ℕ → ℕ → ℕ → ℕ → Type 0
+Rises p s i group object = (j : ℕ) → suc j ≡ i → Below (groupOf p (recordAt p s j)) (objectOf (behind p (recordAt p s j))) group object
+
+risen : (p : Profile) (s : List ℕ) (i group object : ℕ) → atOrAbove (groupBefore p s i) (objectBefore p s i) group object ≡ true → Rises p s i group object
+unfolding groupBefore objectBefore
+risen p s i group object h j e = below (groupOf p (recordAt p s j)) (objectOf (behind p (recordAt p s j))) group object (rw (sym e) at h)
+
+rises-from : (p : Profile) (s : List ℕ) (i group object : ℕ) → Rises p s i group object → atOrAbove (groupBefore p s i) (objectBefore p s i) group object ≡ true
+unfolding groupBefore objectBefore
+rises-from p s zero group object f = first-above group object
+rises-from p s (suc j) group object f = above-below (groupOf p (recordAt p s j)) (objectOf (behind p (recordAt p s j))) group object (f j refl)
 
 -- what a record that is followed tells
-record Met (e : Entry) (above : ℕ) (f : ℕ → Bool) : Type 0 where
+record Met (e : Entry) (last above : ℕ) (f : ℕ → ℕ → Bool) : Type 0 where
+  group : ℕ
   object : ℕ
   status : Status
   age : ℕ
-  entry : e ≡ Record object status age
-  rises : above ≤ object
-  rest : f (suc object) ≡ true
+  entry : e ≡ Record group object status age
+  rises : atOrAbove last above group object ≡ true
+  rest : f group (suc object) ≡ true
 
-met : (e : Entry) (above : ℕ) (f : ℕ → Bool) → follows above e f ≡ true → Met e above f
-met (Record object status age) above f t = go (leb above object) refl t
+met : (e : Entry) (last above : ℕ) (f : ℕ → ℕ → Bool) → follows last above e f ≡ true → Met e last above f
+met (Record group object status age) last above f t = go (atOrAbove last above group object) refl t
   where
-    go : (b : Bool) → leb above object ≡ b → pick b (f (suc object)) false ≡ true → Met (Record object status age) above f
-    go true p t = record { object = object; status = status; age = age; entry = refl; rises = leb-true above object p; rest = t }
+    go : (b : Bool) → atOrAbove last above group object ≡ b → pick b (f group (suc object)) false ≡ true → Met (Record group object status age) last above f
+    go true p t = record { group = group; object = object; status = status; age = age; entry = refl; rises = p; rest = t }
     go false p t = never t
-met Ends above f t = never t
-met Broken above f t = never t
+met Ends last above f t = never t
+met Broken last above f t = never t
+met OtherProfile last above f t = never t
 
-module _ (s : List ℕ) (n : ℕ) where
-  -- one past the object number of record i, which is an entry
-  next-before : (i object : ℕ) (status : Status) (age : ℕ) → entryAt s i ≡ Record object status age → suc object ≡ before s (i + 1)
-  unfolding before
-  next-before i object status age e = let o : objectOf (recordAt s i) ≡ object = object-is (recordAt s i) (entryAt s i) object status age e refl .0 in rw (add-one, o)
+module _ (p : Profile) (s : List ℕ) (n : ℕ) where
+  -- what record i leaves, which is an entry
+  next-group : (i group object : ℕ) (status : Status) (age : ℕ) → entryAt p s i ≡ Record group object status age → group ≡ groupBefore p s (i + 1)
+  unfolding groupBefore
+  next-group i group object status age e = let k = key-is p (recordAt p s i) (entryAt p s i) group object status age e refl in rw (add-one, k .group)
 
-  all-good : (k i above : ℕ) → i + k ≡ n → above ≡ before s i → recordsGood (n - i) above (drop (i * recordSize) s) ≡ true → (j : ℕ) → i ≤ j → j < n → Obeys s j
-  all-good zero i above l a g j p q = absurd (omega arith)
-  all-good (suc k) i above l a g j p q =
-      let m = met (entryAt s i) above (λ next. recordsGood (n - (i + 1)) next (drop ((i + 1) * recordSize) s)) (sym (turn n above i s (omega arith)) ∙ g) in
-      let r : before s i ≤ m .object = omega (arith, a, m .rises) in
+  next-object : (i group object : ℕ) (status : Status) (age : ℕ) → entryAt p s i ≡ Record group object status age → suc object ≡ objectBefore p s (i + 1)
+  unfolding objectBefore
+  next-object i group object status age e = let k = key-is p (recordAt p s i) (entryAt p s i) group object status age e refl in rw (add-one, k .object)
+
+  all-good : (k i last above : ℕ) → i + k ≡ n → last ≡ groupBefore p s i → above ≡ objectBefore p s i → rest p n i s last above ≡ true → (j : ℕ) → i ≤ j → j < n → Obeys p s j
+  all-good zero i last above l b a g j x y = absurd (omega arith)
+  all-good (suc k) i last above l b a g j x y =
+      let m = met (entryAt p s i) last above (rest p n (i + 1) s) (sym (turn p n last above i s (omega arith)) ∙ g) in
+      let r : atOrAbove (groupBefore p s i) (objectBefore p s i) (m .group) (m .object) ≡ true = rw (sym b, sym a) (m .rises) in
       split (i + 1) j
-      (λ h. all-good k (i + 1) (suc (m .object)) (omega arith) (next-before i (m .object) (m .status) (m .age) (m .entry)) (m .rest) j h q)
+      (λ h. all-good k (i + 1) (m .group) (suc (m .object)) (omega arith) (next-group i (m .group) (m .object) (m .status) (m .age) (m .entry)) (next-object i (m .group) (m .object) (m .status) (m .age) (m .entry)) (m .rest) j h y)
       (λ h. let e : i ≡ j = omega arith in
-      subst (Obeys s) e (record { object = m .object; status = m .status; age = m .age; entry = m .entry; rises = risen s i (m .object) r }))
+      subst (Obeys p s) e (record { group = m .group; object = m .object; status = m .status; age = m .age; entry = m .entry; rises = risen p s i (m .group) (m .object) r }))
 
-  obey-good : (k i above : ℕ) → i + k ≡ n → above ≡ before s i → ((j : ℕ) → j < n → Obeys s j) → recordsGood (n - i) above (drop (i * recordSize) s) ≡ true
-  obey-good zero i above l a f = done n above i s (omega arith)
-  obey-good (suc k) i above l a f =
+  obey-good : (k i last above : ℕ) → i + k ≡ n → last ≡ groupBefore p s i → above ≡ objectBefore p s i → ((j : ℕ) → j < n → Obeys p s j) → rest p n i s last above ≡ true
+  obey-good zero i last above l b a f = done p n last above i s (omega arith)
+  obey-good (suc k) i last above l b a f =
       let x = f i (omega arith) in
-      let h : above ≤ x .object = rw a (rises-from s i (x .object) (x .rises)) in
-      turn n above i s (omega arith)
-      ∙ rw (x .entry, le-leb above (x .object) h) (obey-good k (i + 1) (suc (x .object)) (omega arith) (next-before i (x .object) (x .status) (x .age) (x .entry)) f)
+      let h : atOrAbove last above (x .group) (x .object) ≡ true = rw (b, a) (rises-from p s i (x .group) (x .object) (x .rises)) in
+      turn p n last above i s (omega arith)
+      ∙ rw (x .entry, h) (obey-good k (i + 1) (x .group) (suc (x .object)) (omega arith) (next-group i (x .group) (x .object) (x .status) (x .age) (x .entry)) (next-object i (x .group) (x .object) (x .status) (x .age) (x .entry)) f)
 
 pub entries-judged : EntriesJudged
-unfolding before
-entries-judged s =
-    let n : ℕ = length s / recordSize in
-    let z : n - 0 ≡ n = omega arith in
-    (λ g. λ i h. all-good s n n 0 0 (zero-add n) refl (ap (λ (m : ℕ). recordsGood m 0 s) z ∙ g) i zero-le h, λ f. ap (λ (m : ℕ). recordsGood m 0 s) (sym z) ∙ obey-good s n n 0 0 (zero-add n) refl f)
+unfolding groupBefore objectBefore
+entries-judged p s =
+    let n : ℕ = length s / recordSize p in
+    let w = from-start p s n refl in
+    (λ g. λ i h. all-good p s n n 0 0 0 (zero-add n) refl refl (w ∙ g) i zero-le h, λ f. sym w ∙ obey-good p s n n 0 0 0 (zero-add n) refl refl f)
 
 -- ---- the records handed to a writer
 
 pub fault-judged : FaultJudged
 unfolding entriesFault
-fault-judged s = go (eqb (length s % recordSize) 0) (leb (length s / recordSize) mostGiven) (entriesGood s) refl refl refl
+fault-judged p s = go (eqb (length s % recordSize p) 0) (leb (length s / recordSize p) mostGiven) (entriesGood p s) refl refl refl
   where
-    go : (a b c : Bool) → eqb (length s % recordSize) 0 ≡ a → leb (length s / recordSize) mostGiven ≡ b → entriesGood s ≡ c → FaultRows s (pick a (pick b (pick c 0 12) 10) 12)
-    go true true true p q r =
-        let e = eqb-true (length s % recordSize) 0 p in
-        let l = leb-true (length s / recordSize) mostGiven q in
+    go : (a b c : Bool) → eqb (length s % recordSize p) 0 ≡ a → leb (length s / recordSize p) mostGiven ≡ b → entriesGood p s ≡ c → FaultRows p s (pick a (pick b (pick c 0 12) 10) 12)
+    go true true true o q r =
+        let e = eqb-true (length s % recordSize p) 0 o in
+        let l = leb-true (length s / recordSize p) mostGiven q in
         record {
           ten = (other 0 10 refl, λ x. absurd (omega (arith, x .many)));
           twelve = (other 0 12 refl, ⊎-elim (λ x. absurd (x e)) (λ x. never (sym (x .bad) ∙ r)));
           accepted = (λ x. record { even = e; few = l; good = r }, λ x. refl);
           others = inl refl;
         }
-    go true true false p q r =
-        let e = eqb-true (length s % recordSize) 0 p in
-        let l = leb-true (length s / recordSize) mostGiven q in
+    go true true false o q r =
+        let e = eqb-true (length s % recordSize p) 0 o in
+        let l = leb-true (length s / recordSize p) mostGiven q in
         record {
           ten = (other 12 10 refl, λ x. absurd (omega (arith, x .many)));
           twelve = (λ x. inr (record { even = e; few = l; bad = r }), λ x. refl);
           accepted = (other 12 0 refl, λ x. never (sym r ∙ x .good));
           others = inr (inr (inl refl));
         }
-    go true false c p q r =
-        let e = eqb-true (length s % recordSize) 0 p in
-        let l = leb-false (length s / recordSize) mostGiven q in
+    go true false c o q r =
+        let e = eqb-true (length s % recordSize p) 0 o in
+        let l = leb-false (length s / recordSize p) mostGiven q in
         record {
           ten = (λ x. record { even = e; many = l }, λ x. refl);
           twelve = (other 10 12 refl, ⊎-elim (λ x. absurd (x e)) (λ x. absurd (omega (arith, x .few))));
           accepted = (other 10 0 refl, λ x. absurd (omega (arith, x .few)));
           others = inr (inl refl);
         }
-    go false b c p q r =
-        let n = eqb-false (length s % recordSize) 0 p in
+    go false b c o q r =
+        let n = eqb-false (length s % recordSize p) 0 o in
         record {
           ten = (other 12 10 refl, λ x. absurd (n (x .even)));
           twelve = (λ x. inl n, λ x. refl);

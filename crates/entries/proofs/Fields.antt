@@ -7,32 +7,50 @@ use native.Mathlib.Nat.{add-mul, mul-assoc, pow-succ'}
 use native.Mathlib.Omega.{arith}
 use borrow.Author.Tests.{le-leb, lt-leb}
 use lib.ListN.{length, take, drop, length-take, length-drop}
-use lib.Seq.{drop-cons, length-take-le}
+use lib.Seq.{drop-cons, take-all, length-take-le}
 use Rattle.wire.specs.Bytes.{be, Octets}
 use Rattle.wire.specs.Fields.{readFixed}
 use Rattle.wire.specs.declared.Fixed.{Fixed}
 use Rattle.wire.specs.declared.Fixed.the-variants.{Value, Ends as FixedEnds}
 use Rattle.wire.proofs.Bytes.{bound, octets-part}
-use Rattle.entries.specs.Limits.{recordSize}
-use Rattle.entries.specs.Entries.{objectOf, statusOf, zerosOf, ageOf, entryFrom, entryOf, recordAt, entryAt}
+use Rattle.wire.proofs.Lengths.{split}
+use Rattle.entries.specs.Limits.{entrySize}
+use Rattle.entries.specs.Profiles.{groupBytes, recordSize}
+use Rattle.entries.specs.Entries.{groupOf, objectOf, statusOf, zerosOf, ageOf, entryFrom, entryBehind, entryOf, recordAt, entryAt}
+use Rattle.entries.specs.declared.Profile.{Profile}
 use Rattle.entries.specs.declared.Entry.{Entry}
 use Rattle.entries.specs.declared.Entry.the-variants.{Ends}
+use Rattle.entries.proofs.Sizes.{step, there, not-there}
+use Rattle.entries.proofs.Profiles.{sized}
 
--- the part that the code lends is the record
-pub record-part : (s : List ℕ) (at : ℕ) → take (at + recordSize - at) (drop at s) ≡ take recordSize (drop at s)
-record-part s at = let e : at + recordSize - at ≡ recordSize = omega arith in rw e
+pub too-short : (group : ℕ) (b : List ℕ) → length b < entrySize → Ends ≡ entryBehind group b
+unfolding entryBehind
+too-short group b h = rw (lt-leb entrySize (length b) h)
 
-pub ends-at : (s : List ℕ) (i : ℕ) → length s / recordSize ≤ i → Ends ≡ entryAt s i
-unfolding entryOf
-ends-at s i h =
-    let l : length (recordAt s i) < recordSize = simp (length-take, length-drop) (omega arith) in
-    rw (lt-leb recordSize (length (recordAt s i)) l)
+-- ---- the part that the code lends is the record; size is what the code has for its size, n for how many there are
+module _ (p : Profile) (s : List ℕ) (i : ℕ) where
+  pub part-is : (size : ℕ) → size ≡ recordSize p → entryOf p (take (i * size + size - i * size) (drop (i * size) s)) ≡ entryAt p s i
+  part-is size e = let l : i * size + size - i * size ≡ size = omega arith in rw (l, e)
+
+  module _ (n : ℕ) (m : n ≡ length s / recordSize p) where
+    pub part-there : (size : ℕ) → size ≡ recordSize p → i < n → i * size + size ≤ length s
+    part-there size e h = rw (e, step (recordSize p) i) (there (recordSize p) (sized p) (length s) i (rw m at h))
+
+    pub ends-at : n ≤ i → Ends ≡ entryAt p s i
+    ends-at h =
+        let l : length s < (i + 1) * recordSize p = not-there (recordSize p) (sized p) (length s) i (rw m at h) in
+        let x = step (recordSize p) i in
+        too-short _ (drop (groupBytes p) (recordAt p s i)) (simp (length-drop, length-take) (omega arith))
 
 -- ---- a record's fields as the code reads them
 
 fixed-there : (len : ℕ) (s : List ℕ) (at : ℕ) → at + len ≤ length s → readFixed len s at ≡ Value (be 0 (take len (drop at s))) (at + len)
 unfolding readFixed
 fixed-there len s at h = rw (le-leb (at + len) (length s) h)
+
+fixed-ends : (len : ℕ) (s : List ℕ) (at : ℕ) → length s < at + len → readFixed len s at ≡ FixedEnds
+unfolding readFixed
+fixed-ends len s at h = rw (lt-leb (at + len) (length s) h)
 
 -- a field within the bytes is there
 pub never-ends : {A : Type 0} (len : ℕ) (s : List ℕ) (at : ℕ) (n : Fixed) → at + len ≤ length s → n ≡ FixedEnds → n ≡ readFixed len s at → A
@@ -57,7 +75,7 @@ be-more (b ∷ bs) acc =
     rw (pow-succ', ← mul-assoc) (omega arith)
 
 -- the field of four bytes at 8 is the status above the three zero bytes
-module _ (b : List ℕ) (o : Octets b) (h : recordSize ≤ length b) where
+module _ (b : List ℕ) (o : Octets b) (h : entrySize ≤ length b) where
   mark-is : be 0 (take 4 (drop 8 b)) ≡ statusOf b * 16777216 + zerosOf b
   mark-is =
       let l : length (take 3 (drop 9 b)) ≡ 3 = length-take-le 3 (drop 9 b) (rw (length-drop) (omega arith)) in
@@ -77,13 +95,44 @@ module _ (b : List ℕ) (o : Octets b) (h : recordSize ≤ length b) where
   mark-zeros = omega (arith, mark-is, zeros-small)
 
 -- r is what the judge of the fields answers
-pub entry-is : (b : List ℕ) (r : Entry) (object mark age : ℕ) → Octets b → recordSize ≤ length b → object ≡ objectOf b → mark ≡ be 0 (take 4 (drop 8 b)) → age ≡ ageOf b
-    → r ≡ entryFrom object (mark / 16777216) (mark % 16777216) age → r ≡ entryOf b
-unfolding entryOf
-entry-is b r object mark age o h p q t e =
-    rw (le-leb recordSize (length b) h)
+pub entry-is : (group : ℕ) (b : List ℕ) (r : Entry) (object mark age : ℕ) → Octets b → entrySize ≤ length b → object ≡ objectOf b → mark ≡ be 0 (take 4 (drop 8 b)) → age ≡ ageOf b
+    → r ≡ entryFrom group object (mark / 16777216) (mark % 16777216) age → r ≡ entryBehind group b
+unfolding entryBehind
+entry-is group b r object mark age o h p q t e =
+    rw (le-leb entrySize (length b) h)
     (e ∙ rw (p, q, t, mark-status b o h, mark-zeros b o h))
 
-pub too-short : (b : List ℕ) → length b < recordSize → Ends ≡ entryOf b
-unfolding entryOf
-too-short b h = rw (lt-leb recordSize (length b) h)
+-- ---- a record: its group, where the profile has one, then the rest
+
+-- n is what the code read of the group
+module _ (p : Profile) (b : List ℕ) (n : Fixed) (e : n ≡ readFixed (groupBytes p) b 0) where
+  pub group-ends : n ≡ FixedEnds → Ends ≡ entryOf p b
+  group-ends t =
+      split (groupBytes p) (length b)
+      (λ h. never-ends (groupBytes p) b 0 n (omega arith) t e)
+      (λ h. too-short _ (drop (groupBytes p) b) (rw (length-drop) (omega arith)))
+
+  module _ (v next : ℕ) (t : n ≡ Value v next) where
+    group-fits : groupBytes p ≤ length b
+    group-fits =
+        split (groupBytes p) (length b)
+        (λ h. h)
+        (λ h. let f : Value v next ≡ FixedEnds = sym t ∙ e ∙ fixed-ends (groupBytes p) b 0 (omega arith) in
+        let z : _≡_ {A = ℕ} 0 1 = cc in
+        absurd (omega arith))
+
+    next-is : next ≡ groupBytes p
+    next-is =
+        let f : Value v next ≡ Value (be 0 (take (groupBytes p) (drop 0 b))) (0 + groupBytes p) = sym t ∙ e ∙ fixed-there (groupBytes p) b 0 (omega (arith, group-fits)) in
+        let m : next ≡ 0 + groupBytes p = cc in
+        omega arith
+
+    pub group-there : next ≤ length b
+    group-there = omega (arith, next-is, group-fits)
+
+    -- r is what the code makes of the rest
+    pub group-is : (r : Entry) → r ≡ entryBehind v (take (length b - next) (drop next b)) → r ≡ entryOf p b
+    group-is r f =
+        let g : v ≡ groupOf p b = field-is (groupBytes p) b 0 n v next (omega (arith, group-fits)) t e in
+        let d : take (length b - next) (drop next b) ≡ drop next b = take-all (length b - next) (drop next b) (rw (length-drop) (omega arith)) in
+        f ∙ rw (d, g, next-is)

@@ -3,21 +3,24 @@
 use Prim.Native.Nat.{ℕ, zero, suc, _+_, _-_, _*_, _/_, _≤_, _<_, min}
 use mathlib.Core.Path.{_≡_, refl, sym, ap, _∙_}
 use mathlib.Core.List.{List}
-use native.Mathlib.Nat.{min-le-left, min-le-right, le-min}
+use native.Mathlib.Nat.{mul-zero, min-le-left, min-le-right, le-min}
 use native.Mathlib.Omega.{arith}
 use borrow.Author.Tests.{le-leb, lt-leb}
 use lib.ListN.{length, length-drop}
 use lib.Seq.{drop-drop}
 use Rattle.wire.specs.Numbers.{widthOf, firstFrom}
 use Rattle.wire.proofs.Lengths.{split, width-le}
-use Rattle.entries.specs.Limits.{recordSize}
+use Rattle.entries.specs.Profiles.{recordSize}
 use Rattle.entries.specs.Fitting.{sizeOf, largestWithin, fittingOf, lastOf}
 use Rattle.entries.specs.Exactly.{RecordsFit, RecordsStay}
+use Rattle.entries.specs.declared.Profile.{Profile}
+use Rattle.entries.proofs.Sizes.{held, not-held, no-less, one-fewer}
+use Rattle.entries.proofs.Profiles.{sized}
 
 -- no record takes one byte, that of the count
-pub size-none : sizeOf 0 ≡ 1
+pub size-none : (p : Profile) → sizeOf p 0 ≡ 1
 unfolding widthOf firstFrom
-size-none = refl
+size-none p = ap (λ (n : ℕ). 1 + n) (mul-zero (recordSize p))
 
 below : (m k : ℕ) → k ≤ suc m → (k ≡ suc m → ⊥) → k ≤ m
 below m k h n = split k m (λ p. p) (λ p. absurd (n (omega arith)))
@@ -66,60 +69,84 @@ within-more size room room' most most' r m =
     (λ p. within-longest size room' most' k (omega (arith, within-most size room most)) (omega (arith, within-fits size room most p)))
     (λ p. omega arith)
 
+pub above-none : (k : ℕ) → (k ≡ 0 → ⊥) → 0 < k
+above-none zero n = absurd (n refl)
+above-none (suc k) n = omega arith
+
 -- ---- the run of last records
 
 -- the code begins with what the room holds without the count: k records, or one fewer
-module _ (given most room k : ℕ) (e : k ≡ min (min given most) (room / recordSize)) where
+module _ (p : Profile) (given most room n q k : ℕ) (l : n ≡ min given most) (z : q ≡ room / recordSize p) (m : k ≡ min n q) where
+  e : k ≡ min (min given most) (room / recordSize p)
+  e = m ∙ rw (l, z)
+
   k-most : k ≤ min given most
-  k-most = rw e (min-le-left (min given most) (room / recordSize))
+  k-most = rw e (min-le-left (min given most) (room / recordSize p))
 
-  k-room : recordSize * k ≤ room
-  k-room = let l : k ≤ room / recordSize = rw e (min-le-right (min given most) (room / recordSize)) in omega arith
+  k-room : recordSize p * k ≤ room
+  k-room = let l : k ≤ room / recordSize p = rw e (min-le-right (min given most) (room / recordSize p)) in held (recordSize p) (sized p) room k l
 
-  above : (j : ℕ) → k < j → j ≤ min given most → room < sizeOf j
+  pub k-held : (size : ℕ) → size ≡ recordSize p → size * k ≤ room
+  k-held size y = rw y k-room
+
+  above : (j : ℕ) → k < j → j ≤ min given most → room < sizeOf p j
   above j l m =
-      split j (room / recordSize)
+      split j (room / recordSize p)
       (λ h. let q : j ≤ k = rw e (le-min m h) in absurd (omega arith))
-      (λ h. omega arith)
+      (λ h. let q = not-held (recordSize p) (sized p) room j h in add-left (widthOf j) room (recordSize p * j) q)
+    where
+      add-left : (w a b : ℕ) → a < b → a < w + b
+      add-left w a b h = omega arith
 
-  pub fits-none : k ≡ 0 → 0 ≡ fittingOf given most room
-  fits-none z = sym z ∙ within-is sizeOf room (min given most) k k-most (λ p. absurd (omega arith)) above
+  pub fits-none : k ≡ 0 → 0 ≡ fittingOf p given most room
+  fits-none z = sym z ∙ within-is (sizeOf p) room (min given most) k k-most (λ q. absurd (omega arith)) above
 
-  pub fits-all : 0 < k → widthOf k ≤ room - recordSize * k → k ≡ fittingOf given most room
-  fits-all p h = within-is sizeOf room (min given most) k k-most (λ q. omega (arith, k-room)) above
+  pub fits-all : (size : ℕ) → size ≡ recordSize p → 0 < k → widthOf k ≤ room - size * k → k ≡ fittingOf p given most room
+  fits-all size y o h = within-is (sizeOf p) room (min given most) k k-most (λ l. within (widthOf k) room (recordSize p * k) (rw y at h) k-room) above
+    where
+      within : (w r b : ℕ) → w ≤ r - b → b ≤ r → w + b ≤ r
+      within w r b h l = omega arith
 
-  -- the count of one fewer takes at most 8 bytes, half of a record
-  pub fits-one-fewer : 0 < k → room - recordSize * k < widthOf k → k - 1 ≡ fittingOf given most room
-  fits-one-fewer p h =
-      within-is sizeOf room (min given most) (k - 1) (omega (arith, k-most)) (λ q. omega (arith, k-room, width-le (k - 1)))
-      (λ j l m. split j k (λ q. let j-is : j ≡ k = omega arith in rw j-is (omega (arith, k-room))) (λ q. above j q m))
+  -- the count of one fewer takes at most 8 bytes, half of a record of 16
+  pub fits-one-fewer : (size : ℕ) → size ≡ recordSize p → 0 < k → room - size * k < widthOf k → k - 1 ≡ fittingOf p given most room
+  fits-one-fewer size y o h =
+      within-is (sizeOf p) room (min given most) (k - 1) (omega (arith, k-most))
+      (λ l. within (widthOf (k - 1)) room (recordSize p * (k - 1)) (recordSize p * k) (recordSize p) (width-le (k - 1)) (omega arith) (one-fewer (recordSize p) k o) k-room)
+      (λ j l m. split j k (λ q. let j-is : j ≡ k = omega arith in rw j-is (beyond (widthOf k) room (recordSize p * k) (rw y at h) k-room)) (λ q. above j q m))
+    where
+      within : (w r a b size : ℕ) → w ≤ 8 → 8 ≤ size → a + size ≡ b → b ≤ r → w + a ≤ r
+      within w r a b size h i e l = omega arith
+
+      beyond : (w r b : ℕ) → r - b < w → b ≤ r → r < w + b
+      beyond w r b h l = omega arith
 
 pub records-fit : RecordsFit
-records-fit given most room =
+records-fit p given most room =
     let top : ℕ = min given most in
-    let m = within-most sizeOf room top in
+    let m = within-most (sizeOf p) room top in
     record {
       limit = omega (arith, m, min-le-right given most);
       given = omega (arith, m, min-le-left given most);
-      fits = λ z. fits z (largestWithin sizeOf room top) (within-fits sizeOf room top);
-      longest = λ j l g f. within-longest sizeOf room top j (le-min g l) f;
+      fits = λ z. fits z (largestWithin (sizeOf p) room top) (within-fits (sizeOf p) room top);
+      longest = λ j l g f. within-longest (sizeOf p) room top j (le-min g l) f;
     }
   where
-    fits : sizeOf 0 ≤ room → (k : ℕ) → (0 < k → sizeOf k ≤ room) → sizeOf k ≤ room
+    fits : sizeOf p 0 ≤ room → (k : ℕ) → (0 < k → sizeOf p k ≤ room) → sizeOf p k ≤ room
     fits z zero h = z
     fits z (suc k) h = h (omega arith)
 
 -- the last k of the last m
-last-last : (s : List ℕ) (k m : ℕ) → k ≤ m → recordSize * m ≤ length s → lastOf s k ≡ lastOf (lastOf s m) k
-last-last s k m h l =
-    let e : length s - recordSize * m + (length (lastOf s m) - recordSize * k) ≡ length s - recordSize * k = omega (arith, length-drop (length s - recordSize * m) s) in
-    rw (drop-drop, e)
+last-last : (p : Profile) (s : List ℕ) (k m : ℕ) → k ≤ m → recordSize p * m ≤ length s → lastOf p s k ≡ lastOf p (lastOf p s m) k
+last-last p s k m h l = rw (drop-drop, sums (length s) (length (lastOf p s m)) (recordSize p * k) (recordSize p * m) (length-drop (length s - recordSize p * m) s) (no-less (recordSize p) k m h) l)
+  where
+    sums : (n d a b : ℕ) → d ≡ n - (n - b) → a ≤ b → b ≤ n → n - b + (d - a) ≡ n - a
+    sums n d a b e h l = omega arith
 
 pub records-stay : RecordsStay
-records-stay s most most' room room' h r =
-    let n : ℕ = length s / recordSize in
-    let q : fittingOf n most room ≤ fittingOf n most' room' = within-more sizeOf room room' (min n most) (min n most') r (le-min (min-le-left n most) (omega (arith, min-le-right n most))) in
+records-stay p s most most' room room' h r =
+    let n : ℕ = length s / recordSize p in
+    let q : fittingOf p n most room ≤ fittingOf p n most' room' = within-more (sizeOf p) room room' (min n most) (min n most') r (le-min (min-le-left n most) (omega (arith, min-le-right n most))) in
     record {
       more = q;
-      last = last-last s (fittingOf n most room) (fittingOf n most' room') q (omega (arith, records-fit n most' room' .given));
+      last = last-last p s (fittingOf p n most room) (fittingOf p n most' room') q (held (recordSize p) (sized p) (length s) (fittingOf p n most' room') (records-fit p n most' room' .given));
     }

@@ -1,4 +1,7 @@
+pub mod Sizes
+pub mod Profiles
 pub mod Fields
+pub mod Order
 pub mod Records
 pub mod Verdicts
 pub mod Largest

@@ -10,6 +10,10 @@ use Rattle.entries.proofs.row.entries_fault.Reads as entries-fault
 use Rattle.entries.proofs.row.entries_fault.Kinds as entries-fault-kinds
 use Rattle.entries.proofs.fit.fitting.Reads as fitting
 use Rattle.entries.proofs.fit.fitting.Kinds as fitting-kinds
+use Rattle.entries.proofs.record_size.Reads as record-size
+use Rattle.entries.proofs.record_size.Kinds as record-size-kinds
+use Rattle.entries.proofs.records_in.Reads as records-in
+use Rattle.entries.proofs.records_in.Kinds as records-in-kinds
 use Rattle.entries.proofs.Entry.refusal.Reads as entry-refusal
 use Rattle.entries.proofs.Entry.refusal.Kinds as entry-refusal-kinds
 
@@ -27,3 +31,9 @@ fitting-one κs given x y s t p q = p ∙ sym q
 
 pub entry-refusal-one : OneAnswer 0 entry-refusal-kinds.ps entry-refusal-kinds.r entry-refusal.Post
 entry-refusal-one κs given x y s t p q = p ∙ sym q
+
+pub record-size-one : OneAnswer 0 record-size-kinds.ps record-size-kinds.r record-size.Post
+record-size-one κs given x y s t p q = p ∙ sym q
+
+pub records-in-one : OneAnswer 0 records-in-kinds.ps records-in-kinds.r records-in.Post
+records-in-one κs given x y s t p q = p ∙ sym q

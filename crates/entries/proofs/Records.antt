@@ -1,58 +1,100 @@
 -- Records in a row: the rule from one record to the next, and what an entry that was accepted tells.
 -- Assumes nothing.
-use Prim.Native.Nat.{ℕ, suc, _+_, _-_, _*_, _≤_, _<_}
+use Prim.Native.Nat.{ℕ, suc, _+_, _-_, _*_, _/_, _%_, _≤_, _<_}
 use mathlib.Core.Path.{_≡_, refl, sym, ap, _∙_}
 use mathlib.Core.Bool.{Bool, true, false}
 use mathlib.Core.Logic.{_⊎_, ⊎-elim}
 use mathlib.Core.List.{List}
+use native.Mathlib.Nat.{zero-mul, mul-mod-left, div-add-mod', div-mul-le-self}
 use native.Mathlib.Numerals.{add-one}
 use native.Mathlib.Omega.{arith}
-use borrow.Author.Tests.{le-leb, lt-leb, eqb-false}
+use borrow.Author.Tests.{le-leb, lt-leb, eq-eqb, ne-eqb, eqb-false}
 use denote.Enum.Declared.{tagOf}
-use lib.ListN.{take, drop}
+use lib.ListN.{length, drop}
 use lib.Seq.{drop-drop}
-use Rattle.entries.specs.Limits.{recordSize}
-use Rattle.entries.specs.Entries.{entryOf, entryAt, follows, recordsGood}
+use Rattle.wire.specs.Bytes.{pick}
+use Rattle.entries.specs.Limits.{mostGiven}
+use Rattle.entries.specs.Profiles.{recordSize}
+use Rattle.entries.specs.Entries.{entryAt, atOrAbove, follows, recordsGood, entriesGood, entriesFault}
+use Rattle.entries.specs.declared.Profile.{Profile}
 use Rattle.entries.specs.declared.Status.{Status}
 use Rattle.entries.specs.declared.Entry.{Entry}
-use Rattle.entries.specs.declared.Entry.the-variants.{Record, Ends, Broken}
+use Rattle.entries.specs.declared.Entry.the-variants.{Record, Ends, Broken, OtherProfile}
 use Rattle.entries.proofs.Entry.{the-type}
-use Rattle.entries.proofs.Fields.{record-part}
+use Rattle.entries.proofs.Sizes.{step}
 
 -- ---- one record more
 
-pub turn : (n above i : ℕ) (s : List ℕ) → i < n
-    → recordsGood (n - i) above (drop (i * recordSize) s) ≡ follows above (entryAt s i) (λ next. recordsGood (n - (i + 1)) next (drop ((i + 1) * recordSize) s))
-unfolding recordsGood
-turn n above i s h =
-    let e : n - i ≡ suc (n - (i + 1)) = omega arith in
-    let d : i * recordSize + recordSize ≡ (i + 1) * recordSize = omega arith in
-    rw (e, drop-drop recordSize (i * recordSize) s, d)
+-- the records from the i-th on, behind one that leaves a group and an object number
+abbrev pub rest : Profile → ℕ → ℕ → List ℕ → ℕ → ℕ → Bool
+rest p n i s group above = recordsGood p (n - i) group above (drop (i * recordSize p) s)
 
-pub done : (n above i : ℕ) (s : List ℕ) → n ≤ i → recordsGood (n - i) above (drop (i * recordSize) s) ≡ true
+pub turn : (p : Profile) (n last above i : ℕ) (s : List ℕ) → i < n
+    → rest p n i s last above ≡ follows last above (entryAt p s i) (rest p n (i + 1) s)
 unfolding recordsGood
-done n above i s h = let e : n - i ≡ 0 = omega arith in rw e
+turn p n last above i s h =
+    let e : n - i ≡ suc (n - (i + 1)) = omega arith in
+    rw (e, drop-drop (recordSize p) (i * recordSize p) s, step (recordSize p) i)
+
+pub done : (p : Profile) (n last above i : ℕ) (s : List ℕ) → n ≤ i → rest p n i s last above ≡ true
+unfolding recordsGood
+done p n last above i s h = let e : n - i ≡ 0 = omega arith in rw e
+
+-- n is what the code has for how many records there are
+module _ (p : Profile) (s : List ℕ) (n : ℕ) (m : n ≡ length s / recordSize p) where
+  -- all records, nothing before them
+  pub from-start : rest p n 0 s 0 0 ≡ entriesGood p s
+  from-start =
+      let z : n - 0 ≡ n = omega arith in
+      let d : drop (0 * recordSize p) s ≡ s = ap (λ (k : ℕ). drop k s) (zero-mul (recordSize p)) in
+      rw (z, d, m)
+
+  -- ---- the writer's judgement; size is what the code has for the record's size
+  module _ (size : ℕ) (e : size ≡ recordSize p) where
+    pub no-more : n * size ≤ length s
+    no-more = rw (e, m) (div-mul-le-self (length s) (recordSize p))
+
+    pub fault-ragged : (n * size ≡ length s → ⊥) → 12 ≡ entriesFault p s
+    unfolding entriesFault
+    fault-ragged h =
+        let r : length s % recordSize p ≡ 0 → ⊥ = λ z. h (rw (e, m) (omega (arith, div-add-mod' (length s) (recordSize p)))) in
+        rw (ne-eqb (length s % recordSize p) 0 r)
+
+    module _ (h : n * size ≡ length s) where
+      even : length s % recordSize p ≡ 0
+      even = ap (λ (k : ℕ). k % recordSize p) (sym h) ∙ rw e (mul-mod-left n (recordSize p))
+
+      pub fault-many : mostGiven < n → 10 ≡ entriesFault p s
+      unfolding entriesFault
+      fault-many l = rw (eq-eqb (length s % recordSize p) 0 even, ← m, lt-leb n mostGiven l)
+
+      pub fault-records : n ≤ mostGiven → (g : Bool) → g ≡ entriesGood p s → pick g 0 12 ≡ entriesFault p s
+      unfolding entriesFault
+      fault-records l g f =
+          let k : length s / recordSize p ≤ mostGiven = rw m at l in
+          ap (λ (b : Bool). pick b 0 12) f ∙ rw (eq-eqb (length s % recordSize p) 0 even, le-leb (length s / recordSize p) mostGiven k)
 
 -- an answer that is no record
-no-record : (e : Entry) (above : ℕ) (f : ℕ → Bool) → (tagOf the-type e ≡ 1) ⊎ (tagOf the-type e ≡ 2) → follows above e f ≡ false
-no-record (Record object status age) above f t = ⊎-elim (λ z. absurd (eqb-false 0 1 refl z)) (λ z. absurd (eqb-false 0 2 refl z)) t
-no-record Ends above f t = refl
-no-record Broken above f t = refl
+no-record : (e : Entry) (last above : ℕ) (f : ℕ → ℕ → Bool) → (tagOf the-type e ≡ 1) ⊎ ((tagOf the-type e ≡ 2) ⊎ (tagOf the-type e ≡ 3)) → follows last above e f ≡ false
+no-record (Record group object status age) last above f t = ⊎-elim (λ z. absurd (eqb-false 0 1 refl z)) (⊎-elim (λ z. absurd (eqb-false 0 2 refl z)) (λ z. absurd (eqb-false 0 3 refl z))) t
+no-record Ends last above f t = refl
+no-record Broken last above f t = refl
+no-record OtherProfile last above f t = refl
 
 -- e is what the code read of record i, and R the answer of the whole
-module _ (s : List ℕ) (n above i : ℕ) (R : Bool) (e : Entry) (h : i < n) (g : e ≡ entryOf (take (i * recordSize + recordSize - i * recordSize) (drop (i * recordSize) s)))
-    (inv : recordsGood (n - i) above (drop (i * recordSize) s) ≡ R) where
-  here : follows above e (λ next. recordsGood (n - (i + 1)) next (drop ((i + 1) * recordSize) s)) ≡ R
+module _ (p : Profile) (s : List ℕ) (n last above i : ℕ) (R : Bool) (e : Entry) (h : i < n) (g : e ≡ entryAt p s i)
+    (inv : rest p n i s last above ≡ R) where
+  here : follows last above e (rest p n (i + 1) s) ≡ R
   here =
-      ap (λ (x : Entry). follows above x (λ next. recordsGood (n - (i + 1)) next (drop ((i + 1) * recordSize) s))) (g ∙ ap entryOf (record-part s (i * recordSize)))
-      ∙ sym (turn n above i s h) ∙ inv
+      ap (λ (x : Entry). follows last above x (rest p n (i + 1) s)) g
+      ∙ sym (turn p n last above i s h) ∙ inv
 
-  pub stop-broken : (tagOf the-type e ≡ 1) ⊎ (tagOf the-type e ≡ 2) → false ≡ R
-  stop-broken t = sym (no-record e above (λ next. recordsGood (n - (i + 1)) next (drop ((i + 1) * recordSize) s)) t) ∙ here
+  pub stop-broken : (tagOf the-type e ≡ 1) ⊎ ((tagOf the-type e ≡ 2) ⊎ (tagOf the-type e ≡ 3)) → false ≡ R
+  stop-broken t = sym (no-record e last above (rest p n (i + 1) s) t) ∙ here
 
-  module _ (object : ℕ) (status : Status) (age : ℕ) (t : e ≡ Record object status age) where
-    pub stop-order : object < above → false ≡ R
-    stop-order l = rw (t, lt-leb above object l) at here
+  module _ (group object : ℕ) (status : Status) (age : ℕ) (t : e ≡ Record group object status age) where
+    pub stop-order : atOrAbove last above group object ≡ false → false ≡ R
+    stop-order l = rw (t, l) at here
 
-    pub more-record : above ≤ object → recordsGood (n - (i + 1)) (object + 1) (drop ((i + 1) * recordSize) s) ≡ R
-    more-record l = rw (add-one object) (rw (t, le-leb above object l) at here)
+    pub more-record : atOrAbove last above group object ≡ true → rest p n (i + 1) s group (object + 1) ≡ R
+    more-record l = rw (add-one object) (rw (t, l) at here)

@@ -11,18 +11,19 @@ use lib.ListN.{length}
 use Rattle.wire.specs.Bytes.{pick}
 use Rattle.wire.specs.Numbers.{limit}
 use Rattle.wire.proofs.Lengths.{split}
-use Rattle.entries.specs.Limits.{recordSize}
-use Rattle.entries.specs.Entries.{objectOf, statusOf, zerosOf, ageOf, withStatus, ageGood, entryFrom, entryOf}
+use Rattle.entries.specs.Limits.{entrySize}
+use Rattle.entries.specs.Entries.{groupOf, behind, objectOf, statusOf, zerosOf, ageOf, withStatus, ageGood, entryFrom, entryBehind, entryOf}
 use Rattle.entries.specs.Exactly.{Right}
+use Rattle.entries.specs.declared.Profile.{Profile}
 use Rattle.entries.specs.declared.Status.{Status}
 use Rattle.entries.specs.declared.Status.the-variants.{Received, Late, NotReceived, Partial}
 use Rattle.entries.specs.declared.Entry.{Entry}
 use Rattle.entries.specs.declared.Entry.the-variants.{Record, Ends, Broken}
 
-pub data Verdict (b : List ℕ) : Entry → Type 0 where
-  short : length b < recordSize → Verdict b Ends
-  wrong : recordSize ≤ length b → (Right b → ⊥) → Verdict b Broken
-  right : {status : Status} → recordSize ≤ length b → Right b → Verdict b (Record (objectOf b) status (ageOf b))
+pub data Verdict (p : Profile) (b : List ℕ) : Entry → Type 0 where
+  short : length (behind p b) < entrySize → Verdict p b Ends
+  wrong : entrySize ≤ length (behind p b) → (Right p b → ⊥) → Verdict p b Broken
+  right : {status : Status} → entrySize ≤ length (behind p b) → Right p b → Verdict p b (Record (groupOf p b) (objectOf (behind p b)) status (ageOf (behind p b)))
 
 -- the test of the age is the rule
 age-rule : (status age : ℕ) → ageGood status age ≡ true → status ≡ 2 → age ≡ 0
@@ -42,45 +43,60 @@ none-of-four (suc (suc zero)) a b c d h = c refl
 none-of-four (suc (suc (suc zero))) a b c d h = d refl
 none-of-four (suc (suc (suc (suc n)))) a b c d h = omega arith
 
-module _ (b : List ℕ) (h : recordSize ≤ length b) where
-  statuses : objectOf b ≤ limit → zerosOf b ≡ 0 → ageGood (statusOf b) (ageOf b) ≡ true → Verdict b (withStatus (objectOf b) (statusOf b) (ageOf b))
-  statuses o z g = go (eqb (statusOf b) 0) (eqb (statusOf b) 1) (eqb (statusOf b) 2) (eqb (statusOf b) 3) refl refl refl refl
-    where
-      fine : statusOf b ≤ 3 → Right b
-      fine l = record { object = o; status = l; zeros = z; age = age-rule (statusOf b) (ageOf b) g }
+module _ (p : Profile) (b : List ℕ) (h : entrySize ≤ length (behind p b)) where
+  abbrev g : ℕ
+  g = groupOf p b
 
-      go : (p q r t : Bool) → eqb (statusOf b) 0 ≡ p → eqb (statusOf b) 1 ≡ q → eqb (statusOf b) 2 ≡ r → eqb (statusOf b) 3 ≡ t
-          → Verdict b (pick p (Record (objectOf b) Received (ageOf b)) (pick q (Record (objectOf b) Late (ageOf b)) (pick r (Record (objectOf b) NotReceived (ageOf b)) (pick t (Record (objectOf b) Partial (ageOf b)) Broken))))
-      go true q r t e f k l = right h (fine (omega (arith, eqb-true (statusOf b) 0 e)))
-      go false true r t e f k l = right h (fine (omega (arith, eqb-true (statusOf b) 1 f)))
-      go false false true t e f k l = right h (fine (omega (arith, eqb-true (statusOf b) 2 k)))
-      go false false false true e f k l = right h (fine (omega (arith, eqb-true (statusOf b) 3 l)))
+  abbrev c : List ℕ
+  c = behind p b
+
+  statuses : g ≤ limit → objectOf c ≤ limit → zerosOf c ≡ 0 → ageGood (statusOf c) (ageOf c) ≡ true → Verdict p b (withStatus g (objectOf c) (statusOf c) (ageOf c))
+  statuses i o z a = go (eqb (statusOf c) 0) (eqb (statusOf c) 1) (eqb (statusOf c) 2) (eqb (statusOf c) 3) refl refl refl refl
+    where
+      fine : statusOf c ≤ 3 → Right p b
+      fine l = record { group = i; object = o; status = l; zeros = z; age = age-rule (statusOf c) (ageOf c) a }
+
+      go : (x y r t : Bool) → eqb (statusOf c) 0 ≡ x → eqb (statusOf c) 1 ≡ y → eqb (statusOf c) 2 ≡ r → eqb (statusOf c) 3 ≡ t
+          → Verdict p b (pick x (Record g (objectOf c) Received (ageOf c)) (pick y (Record g (objectOf c) Late (ageOf c)) (pick r (Record g (objectOf c) NotReceived (ageOf c)) (pick t (Record g (objectOf c) Partial (ageOf c)) Broken))))
+      go true y r t e f k l = right h (fine (omega (arith, eqb-true (statusOf c) 0 e)))
+      go false true r t e f k l = right h (fine (omega (arith, eqb-true (statusOf c) 1 f)))
+      go false false true t e f k l = right h (fine (omega (arith, eqb-true (statusOf c) 2 k)))
+      go false false false true e f k l = right h (fine (omega (arith, eqb-true (statusOf c) 3 l)))
       go false false false false e f k l =
-          wrong h (λ x. none-of-four (statusOf b) (eqb-false (statusOf b) 0 e) (eqb-false (statusOf b) 1 f) (eqb-false (statusOf b) 2 k) (eqb-false (statusOf b) 3 l) (x .status))
+          wrong h (λ x. none-of-four (statusOf c) (eqb-false (statusOf c) 0 e) (eqb-false (statusOf c) 1 f) (eqb-false (statusOf c) 2 k) (eqb-false (statusOf c) 3 l) (x .status))
 
-  rules : Verdict b (entryFrom (objectOf b) (statusOf b) (zerosOf b) (ageOf b))
+  rules : Verdict p b (entryFrom g (objectOf c) (statusOf c) (zerosOf c) (ageOf c))
   unfolding entryFrom
-  rules = go (leb (objectOf b) limit) (eqb (zerosOf b) 0) (ageGood (statusOf b) (ageOf b)) refl refl refl
+  rules = go (leb g limit) (leb (objectOf c) limit) (eqb (zerosOf c) 0) (ageGood (statusOf c) (ageOf c)) refl refl refl refl
     where
-      go : (p q r : Bool) → leb (objectOf b) limit ≡ p → eqb (zerosOf b) 0 ≡ q → ageGood (statusOf b) (ageOf b) ≡ r
-          → Verdict b (pick p (pick q (pick r (withStatus (objectOf b) (statusOf b) (ageOf b)) Broken) Broken) Broken)
-      go true true true e f g = statuses (leb-true (objectOf b) limit e) (eqb-true (zerosOf b) 0 f) g
-      go true true false e f g = wrong h (λ x. age-broken (statusOf b) (ageOf b) g (x .age))
-      go true false r e f g = wrong h (λ x. eqb-false (zerosOf b) 0 f (x .zeros))
-      go false q r e f g = wrong h (λ x. omega (arith, x .object, leb-false (objectOf b) limit e))
+      go : (x y z r : Bool) → leb g limit ≡ x → leb (objectOf c) limit ≡ y → eqb (zerosOf c) 0 ≡ z → ageGood (statusOf c) (ageOf c) ≡ r
+          → Verdict p b (pick x (pick y (pick z (pick r (withStatus g (objectOf c) (statusOf c) (ageOf c)) Broken) Broken) Broken) Broken)
+      go true true true true d e f a = statuses (leb-true g limit d) (leb-true (objectOf c) limit e) (eqb-true (zerosOf c) 0 f) a
+      go true true true false d e f a = wrong h (λ x. age-broken (statusOf c) (ageOf c) a (x .age))
+      go true true false r d e f a = wrong h (λ x. eqb-false (zerosOf c) 0 f (x .zeros))
+      go true false z r d e f a = wrong h (λ x. omega (arith, x .object, leb-false (objectOf c) limit e))
+      go false y z r d e f a = wrong h (λ x. omega (arith, x .group, leb-false g limit d))
 
-pub verdict : (b : List ℕ) → Verdict b (entryOf b)
-unfolding entryOf
-verdict b =
-    split recordSize (length b)
-    (λ h. rw (le-leb recordSize (length b) h) (rules b h))
-    (λ h. rw (lt-leb recordSize (length b) h) (short h))
+pub verdict : (p : Profile) (b : List ℕ) → Verdict p b (entryOf p b)
+unfolding entryBehind
+verdict p b =
+    split entrySize (length (behind p b))
+    (λ h. rw (le-leb entrySize (length (behind p b)) h) (rules p b h))
+    (λ h. rw (lt-leb entrySize (length (behind p b)) h) (short h))
 
--- an entry has the object number of its bytes, which is not above the limit
-pub object-is : (b : List ℕ) (e : Entry) (object : ℕ) (status : Status) (age : ℕ) → e ≡ Record object status age → e ≡ entryOf b → (objectOf b ≡ object) × (object ≤ limit)
-object-is b e object status age t f = go (entryOf b) (verdict b) (sym f ∙ t)
+-- an entry has the group and the object number of its bytes, which is not above the limit
+pub record Known (p : Profile) (b : List ℕ) (g o : ℕ) : Type 0 where
+  pub group : groupOf p b ≡ g
+  pub object : objectOf (behind p b) ≡ o
+  pub small : o ≤ limit
+
+pub key-is : (p : Profile) (b : List ℕ) (e : Entry) (group object : ℕ) (status : Status) (age : ℕ) → e ≡ Record group object status age → e ≡ entryOf p b → Known p b group object
+key-is p b e group object status age t f = go (entryOf p b) (verdict p b) (sym f ∙ t)
   where
-    go : (x : Entry) → Verdict b x → x ≡ Record object status age → (objectOf b ≡ object) × (object ≤ limit)
+    go : (x : Entry) → Verdict p b x → x ≡ Record group object status age → Known p b group object
     go x (short h) e = let z : _≡_ {A = ℕ} 0 1 = cc in absurd (omega arith)
     go x (wrong h n) e = let z : _≡_ {A = ℕ} 0 1 = cc in absurd (omega arith)
-    go x (right h r) e = let o : objectOf b ≡ object = cc in (o, omega (arith, r .object))
+    go x (right h r) e =
+        let g : groupOf p b ≡ group = cc in
+        let o : objectOf (behind p b) ≡ object = cc in
+        record { group = g; object = o; small = omega (arith, r .object) }

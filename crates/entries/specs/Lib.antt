@@ -1,4 +1,5 @@
 pub mod Limits
+pub mod Profiles
 pub mod Entries
 pub mod Fitting
 pub mod Refusals

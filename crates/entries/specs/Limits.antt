@@ -2,8 +2,12 @@
 use Prim.Native.Nat.{ℕ}
 
 -- "records of 16 bytes"
-abbrev pub recordSize : ℕ
-recordSize = 16
+abbrev pub entrySize : ℕ
+entrySize = 16
+
+-- "group (8 bytes"
+abbrev pub groupSize : ℕ
+groupSize = 8
 
 -- "The limit becomes 200 for both readers and the writer" (02, No. 8)
 abbrev pub mostEntries : ℕ

@@ -1,15 +1,45 @@
 // One entry record.
 ghost use mathlib.Core.Path.{_≡_};
-ghost use Rattle.entries.specs.Entries.{entryFrom, entryOf, entryAt};
+ghost use Rattle.wire.specs.Fields.{readFixed};
+ghost use Rattle.entries.specs.Profiles.{groupBytes};
+ghost use Rattle.entries.specs.Entries.{entryFrom, entryBehind, entryOf, entryAt, entryBy};
 use crate::Entry;
+use crate::Profile;
 use crate::RECORD;
 use crate::Status;
+use crate::record_size;
+use crate::records_in;
 use wire::Fixed;
 use wire::LARGEST;
 
-// The entry in a record's bytes. Its status and the three zero bytes are looked at as one field of four bytes.
-pub(crate) fn entry_of(bytes: &[u8]) -> Entry
-    ensures { λ r. ⌜ r ≡ entryOf (now (bytes .entry)) ⌝ }
+// The group of a record and the place behind it, both 0 where the profile has none.
+fn group_in(profile: Profile, bytes: &[u8]) -> Fixed
+    ensures { λ r. ⌜ r ≡ readFixed (groupBytes profile) (now (bytes .entry)) 0 ⌝ }
+{
+    match profile {
+        Profile::One => Fixed::Value { value: 0, next: 0 },
+        Profile::Two => wire::read_fixed8(bytes, 0),
+    }
+}
+
+// The entry in a record's bytes: its group, where the profile has one, then the rest. One call serves both profiles, so that it
+// goes in line in the loop over records.
+pub(crate) fn entry_of(profile: Profile, bytes: &[u8]) -> Entry
+    ensures { λ r. ⌜ r ≡ entryOf profile (now (bytes .entry)) ⌝ }
+{
+    let Fixed::Value {
+        value: group,
+        next: at,
+    } = group_in(profile, bytes)
+    else {
+        return Entry::Ends;
+    };
+    entry_behind(group, &bytes[at..])
+}
+
+// The entry in the 16 bytes behind the group. Its status and the three zero bytes are looked at as one field of four bytes.
+fn entry_behind(group: u64, bytes: &[u8]) -> Entry
+    ensures { λ r. ⌜ r ≡ entryBehind group (now (bytes .entry)) ⌝ }
 {
     if bytes.len() < RECORD {
         return Entry::Ends;
@@ -35,14 +65,15 @@ pub(crate) fn entry_of(bytes: &[u8]) -> Entry
     else {
         return Entry::Ends;
     };
-    judge_entry(object, mark / 16777216, mark % 16777216, age)
+    judge_entry(group, object, mark / 16777216, mark % 16777216, age)
 }
 
 // An entry that obeys its rule.
-fn made(object: u64, status: Status, age: u64) -> Entry
-    ensures { λ r. ⌜ r ≡ Entry.Record object status age ⌝ }
+fn made(group: u64, object: u64, status: Status, age: u64) -> Entry
+    ensures { λ r. ⌜ r ≡ Entry.Record group object status age ⌝ }
 {
     Entry::Record {
+        group,
         object,
         status,
         age,
@@ -50,9 +81,12 @@ fn made(object: u64, status: Status, age: u64) -> Entry
 }
 
 // The entry that the fields of a record make.
-fn judge_entry(object: u64, status: u64, zeros: u64, age: u64) -> Entry
-    ensures { λ r. ⌜ r ≡ entryFrom object status zeros age ⌝ }
+fn judge_entry(group: u64, object: u64, status: u64, zeros: u64, age: u64) -> Entry
+    ensures { λ r. ⌜ r ≡ entryFrom group object status zeros age ⌝ }
 {
+    if LARGEST < group {
+        return Entry::Broken;
+    }
     if LARGEST < object {
         return Entry::Broken;
     }
@@ -60,28 +94,40 @@ fn judge_entry(object: u64, status: u64, zeros: u64, age: u64) -> Entry
         return Entry::Broken;
     }
     match status {
-        0 => made(object, Status::Received, age),
-        1 => made(object, Status::Late, age),
+        0 => made(group, object, Status::Received, age),
+        1 => made(group, object, Status::Late, age),
         2 => {
             if age == 0 {
-                made(object, Status::NotReceived, age)
+                made(group, object, Status::NotReceived, age)
             } else {
                 Entry::Broken
             }
         }
-        3 => made(object, Status::Partial, age),
+        3 => made(group, object, Status::Partial, age),
         _ => Entry::Broken,
     }
 }
 
 // The entry of the given index in a report's entries. Its order against others is not judged.
-pub fn read_entry(entries: &[u8], index: usize) -> Entry
-    ensures { λ r. ⌜ r ≡ entryAt (now (entries .entry)) index ⌝ }
+pub fn read_entry(profile: u64, entries: &[u8], index: usize) -> Entry
+    ensures { λ r. ⌜ r ≡ entryBy profile (now (entries .entry)) index ⌝ }
 {
-    if entries.len() / RECORD <= index {
+    match profile {
+        1 => entry_at(Profile::One, entries, index),
+        2 => entry_at(Profile::Two, entries, index),
+        _ => Entry::OtherProfile,
+    }
+}
+
+// The same in a profile that is one of the two.
+fn entry_at(profile: Profile, entries: &[u8], index: usize) -> Entry
+    ensures { λ r. ⌜ r ≡ entryAt profile (now (entries .entry)) index ⌝ }
+{
+    if records_in(profile, entries.len()) <= index {
         return Entry::Ends;
     }
-    let at = index * RECORD;
-    let end = at + RECORD;
-    entry_of(&entries[at..end])
+    let size = record_size(profile);
+    let at = index * size;
+    let end = at + size;
+    entry_of(profile, &entries[at..end])
 }

@@ -1,49 +1,76 @@
 -- The entries of a report are the end of the caller's own bytes, from `start` on; of a refused report they are nothing, at its end.
 -- And the number that a host gets for a status is the one that the record holds.
 -- Assumes nothing.
-use Prim.Native.Nat.{ℕ, _-_, _*_, _≤_, zero-le}
-use mathlib.Core.Path.{_≡_, refl, sym}
-use mathlib.Core.List.{List}
+use Prim.Native.Nat.{ℕ, _+_, _-_, _*_, _≤_, zero-le}
+use mathlib.Core.Path.{_≡_, refl, sym, _∙_}
+use mathlib.Core.List.{List, []}
 use native.Mathlib.Omega.{arith}
 use lib.ListN.{length, take, drop, length-drop}
 use lib.Seq.{length-take-le}
-use Rattle.entries.specs.Limits.{recordSize}
+use Rattle.entries.specs.Profiles.{recordSize}
 use Rattle.report.specs.Header.{countOf}
 use Rattle.entries.specs.Entries.{withStatus}
 use Rattle.entries.specs.declared.Status.{Status}
 use Rattle.entries.specs.declared.Status.the-variants.{Received, Late, NotReceived, Partial}
 use Rattle.entries.specs.declared.Entry.the-variants.{Record}
-use Rattle.report.specs.Reader.{Reading, Whole, Stopped, partOf, reportReading as judged, entriesIn, entriesOf}
+use Rattle.entries.specs.declared.Profile.{Profile}
+use Rattle.entries.proofs.Profiles.{Which, known, other, which, of-known, of-other}
+use Rattle.report.specs.Reader.{Reading, Whole, Stopped, partOf, reportReading as judged, entriesIn, entriesOf, entriesBy}
 use Rattle.report.proofs.Whole.{Judged, judged-whole}
 use Rattle.host_report.specs.Reports.{entriesFound, statusOut}
 
-part-length : (s ns : List ℕ) (at : ℕ) → Judged s ns at → length (partOf s ns at) ≡ recordSize * countOf ns
-part-length s ns at j = length-take-le (recordSize * countOf ns) (drop at s) (omega (arith, length-drop at s, j .end))
+module _ (p : Profile) (s : List ℕ) where
+  part-length : (ns : List ℕ) (at : ℕ) → Judged p s ns at → length (partOf p s ns at) ≡ length s - at
+  part-length ns at j = length-take-le (recordSize p * countOf ns) (drop at s) (rw (length-drop at s) (within at (recordSize p * countOf ns) (length s) (j .end))) ∙ left at (recordSize p * countOf ns) (length s) (j .end)
+    where
+      within : (a b n : ℕ) → a + b ≡ n → b ≤ n - a
+      within a b n e = omega arith
 
-pub no-longer : (s : List ℕ) → length (entriesOf s) ≤ length s
-unfolding entriesIn
-no-longer s = by (judged s) refl
+      left : (a b n : ℕ) → a + b ≡ n → b ≡ n - a
+      left a b n e = omega arith
+
+  no-longer-in : length (entriesOf p s) ≤ length s
+  unfolding entriesIn
+  no-longer-in = by (judged p s) refl
+    where
+      by : (r : Reading) → judged p s ≡ r → length (entriesIn p s r) ≤ length s
+      by (Stopped n) e = zero-le
+      by (Whole ns at) e = let l = part-length ns at (judged-whole p s ns at (sym e)) in omega arith
+
+  part-found-in : take (length (entriesOf p s)) (drop (length s - length (entriesOf p s)) s) ≡ entriesOf p s
+  unfolding entriesIn
+  part-found-in = by (judged p s) refl
+    where
+      start : (a b n : ℕ) → a + b ≡ n → n - (n - a) ≡ a
+      start a b n e = omega arith
+
+      count : (a b n : ℕ) → a + b ≡ n → n - a ≡ b
+      count a b n e = omega arith
+
+      by : (r : Reading) → judged p s ≡ r → take (length (entriesIn p s r)) (drop (length s - length (entriesIn p s r)) s) ≡ entriesIn p s r
+      by (Stopped n) e = refl
+      by (Whole ns at) e =
+          let j = judged-whole p s ns at (sym e) in
+          rw (part-length ns at j, start at (recordSize p * countOf ns) (length s) (j .end), count at (recordSize p * countOf ns) (length s) (j .end))
+
+pub no-longer : (profile : ℕ) (s : List ℕ) → length (entriesBy profile s) ≤ length s
+no-longer profile s = by (which profile)
   where
-    by : (r : Reading) → judged s ≡ r → length (entriesIn s r) ≤ length s
-    by (Stopped n) e = zero-le
-    by (Whole ns at) e = let j = judged-whole s ns at (sym e) in omega (arith, part-length s ns at j, j .end)
+    by : Which profile → length (entriesBy profile s) ≤ length s
+    by (known p k) = rw (of-known profile [] (λ p. entriesOf p s) p k) (no-longer-in p s)
+    by (other o) = rw (of-other profile [] (λ p. entriesOf p s) o) zero-le
 
 -- "a part of the caller's own bytes, not a copy"
-pub part-found : (s : List ℕ) → take (entriesFound s .length) (drop (entriesFound s .start) s) ≡ entriesOf s
-unfolding entriesIn
-part-found s = by (judged s) refl
+pub part-found : (profile : ℕ) (s : List ℕ) → take (entriesFound profile s .length) (drop (entriesFound profile s .start) s) ≡ entriesBy profile s
+part-found profile s = by (which profile)
   where
-    by : (r : Reading) → judged s ≡ r → take (length (entriesIn s r)) (drop (length s - length (entriesIn s r)) s) ≡ entriesIn s r
-    by (Stopped n) e = refl
-    by (Whole ns at) e =
-        let j = judged-whole s ns at (sym e) in
-        let l = part-length s ns at j in
-        let f : length s - recordSize * countOf ns ≡ at = omega (arith, j .end) in
-        rw (l, f)
+    by : Which profile → take (entriesFound profile s .length) (drop (entriesFound profile s .start) s) ≡ entriesBy profile s
+    by (known p k) = rw (of-known profile [] (λ p. entriesOf p s) p k) (part-found-in p s)
+    by (other o) = rw (of-other profile [] (λ p. entriesOf p s) o)
 
 -- the status's number, read as a record's status, is the status
-pub status-told : (object age : ℕ) (status : Status) → withStatus object (statusOut status) age ≡ Record object status age
-status-told object age Received = refl
-status-told object age Late = refl
-status-told object age NotReceived = refl
-status-told object age Partial = refl
+pub status-told : (group object age : ℕ) (status : Status) → withStatus group object (statusOut status) age ≡ Record group object status age
+status-told group object age Received = refl
+status-told group object age Late = refl
+status-told group object age NotReceived = refl
+status-told group object age Partial = refl

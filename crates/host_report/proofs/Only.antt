@@ -21,5 +21,5 @@ find-entries-one κs given x y s t p q = p ∙ sym q
 pub read-entry-one : OneAnswer 1 read-entry-kinds.ps read-entry-kinds.r read-entry.Post
 read-entry-one κs given x y s t p q = p ∙ sym q
 
-pub write-report-one : OneBuffer 2 write-report-kinds.ps write-report-kinds.r (λ κs s. now (s .0)) write-report.Post
+pub write-report-one : OneBuffer 2 write-report-kinds.ps write-report-kinds.r (λ κs s. now (s .1 .0)) write-report.Post
 write-report-one κs given x y s t p q = (p .0 ∙ sym (q .0), p .1 ∙ sym (q .1))

@@ -13,6 +13,7 @@ pub struct EntriesOut {
 #[repr(C)]
 pub struct EntryOut {
     pub result: u64,
+    pub group: u64,
     pub object: u64,
     pub status: u64,
     pub age: u64,

@@ -1,9 +1,9 @@
 // The feedback report.
 ghost use mathlib.Core.Path.{_≡_};
 ghost use lib.ListN.{length};
-ghost use Rattle.report.specs.Reader.{readReport};
-ghost use Rattle.entries.specs.Entries.{entryAt};
-ghost use Rattle.report.specs.Writer.{writeAnswer, writeBytes};
+ghost use Rattle.report.specs.Reader.{readBy};
+ghost use Rattle.entries.specs.Entries.{entryBy};
+ghost use Rattle.report.specs.Writer.{answerBy, bytesBy};
 ghost use Rattle.host_report.specs.Reports.{entriesFound, statusOut, noEntry, entryOut, writtenOut};
 use crate::EntriesOut;
 use crate::EntryOut;
@@ -32,6 +32,7 @@ fn no_entry(result: u64) -> EntryOut
 {
     EntryOut {
         result,
+        group: 0,
         object: 0,
         status: 0,
         age: 0,
@@ -45,6 +46,7 @@ fn entry_out(answer: Entry) -> EntryOut
     let result = answer.refusal();
     match answer {
         Entry::Record {
+            group,
             object,
             status,
             age,
@@ -52,6 +54,7 @@ fn entry_out(answer: Entry) -> EntryOut
             let kind = status_out(status);
             EntryOut {
                 result,
+                group,
                 object,
                 status: kind,
                 age,
@@ -59,6 +62,7 @@ fn entry_out(answer: Entry) -> EntryOut
         }
         Entry::Ends => no_entry(result),
         Entry::Broken => no_entry(result),
+        Entry::OtherProfile => no_entry(result),
     }
 }
 
@@ -83,18 +87,18 @@ fn written_out(answer: Written) -> WrittenOut
 
 // Reads a whole report.
 #[no_mangle]
-pub extern "C" fn lumbixet_read_report(bytes: &[u8]) -> Report
-    ensures { λ r. ⌜ r ≡ readReport (now (bytes .entry)) ⌝ }
+pub extern "C" fn lumbixet_read_report(profile: u64, bytes: &[u8]) -> Report
+    ensures { λ r. ⌜ r ≡ readBy profile (now (bytes .entry)) ⌝ }
 {
-    report::read_report(bytes)
+    report::read_report(profile, bytes)
 }
 
 // Says where the entries of a report stand: they are its end.
 #[no_mangle]
-pub extern "C" fn lumbixet_find_entries(bytes: &[u8]) -> EntriesOut
-    ensures { λ r. ⌜ r ≡ entriesFound (now (bytes .entry)) ⌝ }
+pub extern "C" fn lumbixet_find_entries(profile: u64, bytes: &[u8]) -> EntriesOut
+    ensures { λ r. ⌜ r ≡ entriesFound profile (now (bytes .entry)) ⌝ }
 {
-    let part = report::entries_of(bytes);
+    let part = report::entries_of(profile, bytes);
     let start = bytes.len() - part.len();
     EntriesOut {
         start: start as u64,
@@ -104,23 +108,24 @@ pub extern "C" fn lumbixet_find_entries(bytes: &[u8]) -> EntriesOut
 
 // Reads one entry of that part.
 #[no_mangle]
-pub extern "C" fn lumbixet_read_entry(entries: &[u8], index: usize) -> EntryOut
-    ensures { λ r. ⌜ r ≡ entryOut (entryAt (now (entries .entry)) index) ⌝ }
+pub extern "C" fn lumbixet_read_entry(profile: u64, entries: &[u8], index: usize) -> EntryOut
+    ensures { λ r. ⌜ r ≡ entryOut (entryBy profile (now (entries .entry)) index) ⌝ }
 {
-    let answer = report::read_entry(entries, index);
+    let answer = report::read_entry(profile, entries, index);
     entry_out(answer)
 }
 
 // Writes a report of at most so many records at the start of the buffer.
 #[no_mangle]
 pub extern "C" fn lumbixet_write_report(
+    profile: u64,
     buffer: &mut [u8],
     header: Header,
     records: &[u8],
     maximum: u64,
 ) -> WrittenOut
-    ensures { λ r. ⌜ (r ≡ writtenOut (writeAnswer header (now (records .entry)) maximum (length (now (buffer .entry))))) × (now (buffer .exit) ≡ writeBytes header (now (records .entry)) maximum (now (buffer .entry))) ⌝ }
+    ensures { λ r. ⌜ (r ≡ writtenOut (answerBy profile header (now (records .entry)) maximum (length (now (buffer .entry))))) × (now (buffer .exit) ≡ bytesBy profile header (now (records .entry)) maximum (now (buffer .entry))) ⌝ }
 {
-    let answer = report::write_report(buffer, header, records, maximum);
+    let answer = report::write_report(profile, buffer, header, records, maximum);
     written_out(answer)
 }

@@ -10,7 +10,7 @@ use Rattle.receiver.specs.Write.{writeBytes}
 use Rattle.receiver.specs.Examples.{started, arrival, dues}
 use Rattle.receiver.specs.Settled.{five, atOnce, inRoom}
 use Rattle.entries.specs.Limits.{mostEntries}
-use Rattle.report.specs.Writer.{writeAnswer as reportAnswer, writeBytes as reportBytes}
+use Rattle.report.specs.Writer.{answerBy as reportAnswer, bytesBy as reportBytes}
 use Rattle.report.specs.declared.Written.the-variants.{Done, Refused}
 use Rattle.report.specs.Examples.{sample, three}
 
@@ -38,10 +38,10 @@ pub record Settled : Type 0 where
   pub P8-in : arrival (arrival (started 3) 1023 .next) 0 .result ≡ 0
   pub P8-below : arrival (arrival (started 3) 1024 .next) 0 .result ≡ 7
   -- "timestamp 1,000,000, interval 100,000, counts 3, 1, 1, 1, average -2, no metrics, no entries: 80 0f 42 40 80 01 86 a0 03 01 01 01 03 00 00"
-  pub P9 : reportBytes (sample 0) [] mostEntries (replicate 15 0)
+  pub P9 : reportBytes 1 (sample 0) [] mostEntries (replicate 15 0)
       ≡ 0x80 ∷ 0x0f ∷ 0x42 ∷ 0x40 ∷ 0x80 ∷ 0x01 ∷ 0x86 ∷ 0xa0 ∷ 0x03 ∷ 0x01 ∷ 0x01 ∷ 0x01 ∷ 0x03 ∷ 0x00 ∷ 0x00 ∷ []
   -- "the same with three records: room 47 keeps two, 46 one, 15 none, 14 gives 9"
-  pub P10-two : reportAnswer (sample 0) three mostEntries 47 ≡ Done 47 2
-  pub P10-one : reportAnswer (sample 0) three mostEntries 46 ≡ Done 31 1
-  pub P10-none : reportAnswer (sample 0) three mostEntries 15 ≡ Done 15 0
-  pub P10-refused : reportAnswer (sample 0) three mostEntries 14 ≡ Refused 9
+  pub P10-two : reportAnswer 1 (sample 0) three mostEntries 47 ≡ Done 47 2
+  pub P10-one : reportAnswer 1 (sample 0) three mostEntries 46 ≡ Done 31 1
+  pub P10-none : reportAnswer 1 (sample 0) three mostEntries 15 ≡ Done 15 0
+  pub P10-refused : reportAnswer 1 (sample 0) three mostEntries 14 ≡ Refused 9

@@ -14,13 +14,17 @@ use Rattle.wire.specs.Numbers.{widthOf, encodeAll, allSmall}
 use Rattle.wire.proofs.Lengths.{width-pos}
 use Rattle.wire.proofs.Small.{all-small, small-append}
 use Rattle.wire.proofs.Standing.{short-stands, stand-small, short-long, short-bytes}
-use Rattle.entries.specs.Limits.{recordSize, mostEntries}
+use Rattle.entries.specs.Limits.{mostEntries}
+use Rattle.entries.specs.Profiles.{recordSize, mostMetrics}
+use Rattle.entries.specs.declared.Profile.{Profile}
 use Rattle.entries.specs.Entries.{entriesFault}
 use Rattle.entries.specs.Fitting.{fittingOf}
+use Rattle.entries.proofs.Profiles.{sized}
+use Rattle.entries.proofs.Sizes.{whole-many, whole-even}
 use Rattle.entries.proofs.Exactly.{fault-judged}
 use Rattle.entries.proofs.Largest.{records-fit}
 use Rattle.report.specs.Layout.{atMetrics, fixedNumbers, atType, atValue}
-use Rattle.report.specs.Limits.{mostMetrics}
+use Rattle.report.specs.Limits.{metricPlaces}
 use Rattle.report.specs.Header.{firstFault, wantedOf, countOf, each, metricAt, headerOf, pairs, numbersOf}
 use Rattle.report.specs.Reader.{Reading, Whole, partOf, reportReading, reportOf, readReport, entriesIn, entriesOf}
 use Rattle.report.specs.Writer.{reportSize, writeAnswer, writeBytes}
@@ -31,7 +35,7 @@ use Rattle.report.specs.declared.Written.the-variants.{Done}
 use Rattle.report.proofs.Signed.{stored-average}
 use Rattle.report.proofs.Whole.{Judged, judged-whole}
 use Rattle.report.proofs.Planning.{length-last, plan-done}
-use Rattle.report.proofs.Following.{End, header, numbers-end, fault-at, fault-start}
+use Rattle.report.proofs.Following.{metrics-placed, End, header, numbers-end, fault-at, fault-start}
 use Rattle.report.proofs.Exactly.{report-reads, sound-judged}
 use Rattle.report.proofs.Places.{metrics-small, entries-small}
 use Rattle.report.proofs.Back.{report-part}
@@ -43,32 +47,32 @@ getD-each zero i k f h = absurd (omega arith)
 getD-each (suc n) i zero f h = ap f (omega arith)
 getD-each (suc n) i (suc k) f h = getD-each n (suc i) k f (omega arith) ∙ ap f (omega arith)
 
-module _ (ns : List ℕ) (g : firstFault ns ≡ 0) (w : length ns ≡ wantedOf ns) where
+module _ (p : Profile) (ns : List ℕ) (g : firstFault p ns ≡ 0) (w : length ns ≡ wantedOf p ns) where
   abbrev m : ℕ
   m = getD ns atMetrics 0
 
-  few : m ≤ mostMetrics
+  few : m ≤ mostMetrics p
   few =
       let l : length (take atMetrics ns) ≡ atMetrics = length-take-le atMetrics ns (omega arith) in
-      metrics-small (take atMetrics ns) m (fault-at [] (take atMetrics ns) m (drop fixedNumbers ns) (rw (← split-at ns atMetrics 0 (omega arith)) g)) l
+      metrics-small p (take atMetrics ns) m (fault-at p [] (take atMetrics ns) m (drop fixedNumbers ns) (rw (← split-at ns atMetrics 0 (omega arith)) g)) l
 
   long : length ns ≡ fixedNumbers + 2 * m + 1
   long = w ∙ rw (min-eq-left few) refl
 
   abbrev kinds : List ℕ
-  kinds = each mostMetrics 0 (λ i. metricAt ns i (atType i))
+  kinds = each metricPlaces 0 (λ i. metricAt ns i (atType i))
 
   abbrev values : List ℕ
-  values = each mostMetrics 0 (λ i. metricAt ns i (atValue i))
+  values = each metricPlaces 0 (λ i. metricAt ns i (atValue i))
 
   kind-at : (i : ℕ) → i < m → getD kinds i 0 ≡ getD ns (atType i) 0
   kind-at i h =
-      getD-each mostMetrics 0 i (λ i. metricAt ns i (atType i)) (omega (arith, few))
+      getD-each metricPlaces 0 i (λ i. metricAt ns i (atType i)) (omega (arith, few, metrics-placed p))
       ∙ ap (λ (j : ℕ). metricAt ns j (atType j)) (zero-add i) ∙ rw (lt-ltb i m h)
 
   value-at : (i : ℕ) → i < m → getD values i 0 ≡ getD ns (atValue i) 0
   value-at i h =
-      getD-each mostMetrics 0 i (λ i. metricAt ns i (atValue i)) (omega (arith, few))
+      getD-each metricPlaces 0 i (λ i. metricAt ns i (atValue i)) (omega (arith, few, metrics-placed p))
       ∙ ap (λ (j : ℕ). metricAt ns j (atValue j)) (zero-add i) ∙ rw (lt-ltb i m h)
 
   pairs-again : (k i : ℕ) → i + k ≡ m → drop (atType i) ns ≡ pairs k i kinds values ++ (countOf ns ∷ [])
@@ -97,14 +101,14 @@ module _ (ns : List ℕ) (g : firstFault ns ≡ 0) (w : length ns ≡ wantedOf n
       (drop-cons ns 6 0 (omega arith) ∙ ap (λ (r : List ℕ). getD ns 6 0 ∷ r)
       (drop-cons ns 7 0 (omega arith))))))))
 
-  pub numbers-again : numbersOf (headerOf ns) ++ (countOf ns ∷ []) ≡ ns
+  pub numbers-again : numbersOf p (headerOf ns) ++ (countOf ns ∷ []) ≡ ns
   unfolding numbersOf headerOf
   numbers-again =
       rw (stored-average, min-eq-left few)
       (ap (λ (r : List ℕ). getD ns 0 0 ∷ getD ns 1 0 ∷ getD ns 2 0 ∷ getD ns 3 0 ∷ getD ns 4 0 ∷ getD ns 5 0 ∷ getD ns 6 0 ∷ m ∷ r) (sym (pairs-again m 0 (zero-add m))) ∙ sym eight)
 
   abbrev us : List ℕ
-  us = numbersOf (headerOf ns)
+  us = numbersOf p (headerOf ns)
 
   one-less : length us + 1 ≡ length ns
   one-less = sym (length-append us (countOf ns ∷ [])) ∙ ap length numbers-again
@@ -116,24 +120,24 @@ module _ (ns : List ℕ) (g : firstFault ns ≡ 0) (w : length ns ≡ wantedOf n
   -- the entry count is within its limit
   pub count-few : countOf ns ≤ mostEntries
   count-few =
-      entries-small us (countOf ns) (fault-at [] us (countOf ns) [] (rw numbers-again g))
+      entries-small p us (countOf ns) (fault-at p [] us (countOf ns) [] (rw numbers-again g))
       (record { behind = omega (arith, one-less, long); even = λ e. omega (arith, one-less, long) })
       (omega (arith, one-less, long, metrics-again))
 
 -- ---- the writer on an accepted report
 
-headed : (s ns : List ℕ) (at : ℕ) → End s (Whole ns at) → Headed s ns at
-headed s ns at (header h) = h
+headed : (p : Profile) (s ns : List ℕ) (at : ℕ) → End p s (Whole ns at) → Headed p s ns at
+headed p s ns at (header h) = h
 
 antisym : (a b : ℕ) → a ≤ b → b ≤ a → a ≡ b
 antisym a b h l = omega arith
 
-module _ (s ns xs : List ℕ) (at maximum : ℕ) (o : Octets s) (w : Whole ns at ≡ reportReading s) (allowed : countOf ns ≤ maximum) (within : maximum ≤ mostEntries) (r : length s ≤ length xs) where
-  j : Judged s ns at
-  j = judged-whole s ns at w
+module _ (p : Profile) (s ns xs : List ℕ) (at maximum : ℕ) (o : Octets s) (w : Whole ns at ≡ reportReading p s) (allowed : countOf ns ≤ maximum) (within : maximum ≤ mostEntries) (r : length s ≤ length xs) where
+  j : Judged p s ns at
+  j = judged-whole p s ns at w
 
-  h : Headed s ns at
-  h = headed s ns at (subst (End s) (j .numbers) (numbers-end s))
+  h : Headed p s ns at
+  h = headed p s ns at (subst (End p s) (j .numbers) (numbers-end p s))
 
   t : take at s ≡ encodeAll ns
   t = let z : at ≡ length (encodeAll ns) = short-long s o (h .stand) ∙ zero-add (length (encodeAll ns)) in rw (← z) at (short-bytes s o (h .stand))
@@ -142,31 +146,34 @@ module _ (s ns xs : List ℕ) (at maximum : ℕ) (o : Octets s) (w : Whole ns at
   k = countOf ns
 
   abbrev front : List ℕ
-  front = numbersOf (headerOf ns)
+  front = numbersOf p (headerOf ns)
 
   again : front ++ (k ∷ []) ≡ ns
-  again = numbers-again ns (h .good) (h .whole)
+  again = numbers-again p ns (h .good) (h .whole)
 
   k-few : k ≤ mostEntries
-  k-few = count-few ns (h .good) (h .whole)
+  k-few = count-few p ns (h .good) (h .whole)
 
-  entries-are : entriesOf s ≡ partOf s ns at
+  entries-are : entriesOf p s ≡ partOf p s ns at
   unfolding entriesIn
-  entries-are = ap (entriesIn s) (sym w)
+  entries-are = ap (entriesIn p s) (sym w)
 
-  entries-long : length (entriesOf s) ≡ recordSize * k
+  entries-long : length (entriesOf p s) ≡ recordSize p * k
   entries-long = rw (entries-are, length-take, length-drop) (omega (arith, j .end))
 
-  entries-fine : entriesFault (entriesOf s) ≡ 0
+  given : length (entriesOf p s) / recordSize p ≡ k
+  given = whole-many (recordSize p) (sized p) (length (entriesOf p s)) k entries-long
+
+  entries-fine : entriesFault p (entriesOf p s) ≡ 0
   entries-fine =
-      fault-judged (entriesOf s) .accepted .1
-      (record { even = omega (arith, entries-long); few = omega (arith, entries-long, k-few); good = rw entries-are (j .good) })
+      fault-judged p (entriesOf p s) .accepted .1
+      (record { even = whole-even (recordSize p) (sized p) (length (entriesOf p s)) k entries-long; few = rw given (omega (arith, k-few)); good = rw entries-are (j .good) })
 
   front-small : allSmall front ≡ true
   front-small = all-small front .1 (small-append front (k ∷ []) .0 (rw again (stand-small s o (short-stands (h .stand)))) .0)
 
-  front-good : firstFault front ≡ 0
-  front-good = fault-start [] front (k ∷ []) (rw again (h .good))
+  front-good : firstFault p front ≡ 0
+  front-good = fault-start p [] front (k ∷ []) (rw again (h .good))
 
   abbrev size : ℕ
   size = length (encodeAll front)
@@ -176,77 +183,74 @@ module _ (s ns xs : List ℕ) (at maximum : ℕ) (o : Octets s) (w : Whole ns at
   head-long =
       sym (length-last front k (omega (arith, k-few))) ∙ ap (λ (l : List ℕ). length (encodeAll l)) again ∙ ap length (sym t) ∙ length-take-le at s (omega (arith, j .end))
 
-  all-fits : reportSize size k ≡ length s
+  all-fits : reportSize p size k ≡ length s
   all-fits = omega (arith, head-long, j .end)
 
-  given : length (entriesOf s) / recordSize ≡ k
-  given = omega (arith, entries-long)
-
-  kept-all : fittingOf (length (entriesOf s) / recordSize) maximum (length xs - size) ≡ k
+  kept-all : fittingOf p (length (entriesOf p s) / recordSize p) maximum (length xs - size) ≡ k
   kept-all =
-      let n : ℕ = fittingOf (length (entriesOf s) / recordSize) maximum (length xs - size) in
-      let l = records-fit (length (entriesOf s) / recordSize) maximum (length xs - size) in
+      let n : ℕ = fittingOf p (length (entriesOf p s) / recordSize p) maximum (length xs - size) in
+      let l = records-fit p (length (entriesOf p s) / recordSize p) maximum (length xs - size) in
       antisym n k (omega (arith, l .given, given)) (l .longest k allowed (omega (arith, given)) (omega (arith, all-fits)))
 
-  answer : Done (length s) k ≡ writeAnswer (headerOf ns) (entriesOf s) maximum (length xs)
+  answer : Done (length s) k ≡ writeAnswer p (headerOf ns) (entriesOf p s) maximum (length xs)
   answer =
-      let p : size < length xs = omega (arith, all-fits, width-pos k (omega (arith, k-few))) in
-      let l : size + widthOf k + recordSize * k ≡ length s = omega (arith, all-fits) in
-      rw (← l) (plan-done front (entriesOf s) maximum (length xs) front-small front-good within entries-fine size k (widthOf k) refl p (sym kept-all) refl)
+      let less : size < length xs = omega (arith, all-fits, width-pos k (omega (arith, k-few))) in
+      let l : size + widthOf k + recordSize p * k ≡ length s = omega (arith, all-fits) in
+      rw (← l) (plan-done p front (entriesOf p s) maximum (length xs) front-small front-good within entries-fine size k (widthOf k) refl less (sym kept-all) refl)
 
-  bytes : take (length s) (writeBytes (headerOf ns) (entriesOf s) maximum xs) ≡ s
+  bytes : take (length s) (writeBytes p (headerOf ns) (entriesOf p s) maximum xs) ≡ s
   bytes =
-      let z : length (entriesOf s) - recordSize * k ≡ 0 = omega (arith, entries-long) in
-      let e : take (recordSize * k) (drop at s) ≡ drop at s = take-all (recordSize * k) (drop at s) (rw length-drop (omega (arith, j .end))) in
-      report-part (headerOf ns) (entriesOf s) maximum xs (length s) k answer
+      let z : length (entriesOf p s) - recordSize p * k ≡ 0 = omega (arith, entries-long) in
+      let e : take (recordSize p * k) (drop at s) ≡ drop at s = take-all (recordSize p * k) (drop at s) (rw length-drop (omega (arith, j .end))) in
+      report-part p (headerOf ns) (entriesOf p s) maximum xs (length s) k answer
       ∙ rw (again, ← t, z, entries-are, e) (take-append-drop at s)
 
 -- ---- by what the reader answers
 
-module _ (s : List ℕ) (o : Octets s) (e : readReport s .refusal ≡ 0) where
-  x : Sound s
-  x = report-reads s .accepted .0 e
+module _ (p : Profile) (s : List ℕ) (o : Octets s) (e : readReport p s .refusal ≡ 0) where
+  x : Sound p s
+  x = report-reads p s .accepted .0 e
 
-  whole : Whole (x .ns) (x .at) ≡ reportReading s
-  whole = sym (sound-judged s x)
+  whole : Whole (x .ns) (x .at) ≡ reportReading p s
+  whole = sym (sound-judged p s x)
 
-  header-read : readReport s .header ≡ headerOf (x .ns)
+  header-read : readReport p s .header ≡ headerOf (x .ns)
   unfolding reportOf
   header-read = ap (λ (r : Reading). reportOf r .header) (sym whole)
 
   -- the writer's answer and bytes are about the header that was read
-  writes-back : (maximum : ℕ) (xs : List ℕ) → countOf (x .ns) ≤ maximum → maximum ≤ mostEntries → length s ≤ length xs → WritesBack s maximum xs
+  writes-back : (maximum : ℕ) (xs : List ℕ) → countOf (x .ns) ≤ maximum → maximum ≤ mostEntries → length s ≤ length xs → WritesBack p s maximum xs
   unfolding headerOf
   writes-back maximum xs f m r = record {
-    answer = subst (λ (h : Header). Done (length s) (h .entries) ≡ writeAnswer h (entriesOf s) maximum (length xs)) (sym header-read) (answer s (x .ns) xs (x .at) maximum o whole f m r);
-    bytes = subst (λ (h : Header). take (length s) (writeBytes h (entriesOf s) maximum xs) ≡ s) (sym header-read) (bytes s (x .ns) xs (x .at) maximum o whole f m r);
+    answer = subst (λ (h : Header). Done (length s) (h .entries) ≡ writeAnswer p h (entriesOf p s) maximum (length xs)) (sym header-read) (answer p s (x .ns) xs (x .at) maximum o whole f m r);
+    bytes = subst (λ (h : Header). take (length s) (writeBytes p h (entriesOf p s) maximum xs) ≡ s) (sym header-read) (bytes p s (x .ns) xs (x .at) maximum o whole f m r);
   }
 
-  count-read : readReport s .header .entries ≡ countOf (x .ns)
+  count-read : readReport p s .header .entries ≡ countOf (x .ns)
   unfolding headerOf
   count-read = ap (λ (h : Header). h .entries) header-read
 
   -- what the reader accepts has no more entries than the limit
-  pub entries-few : readReport s .header .entries ≤ mostEntries
-  entries-few = rw count-read (count-few (x .ns) (x .header .good) (x .header .whole))
+  pub entries-few : readReport p s .header .entries ≤ mostEntries
+  entries-few = rw count-read (count-few p (x .ns) (x .header .good) (x .header .whole))
 
 pub read-write : ReadWrite
-read-write s maximum xs o e f m r = writes-back s o e maximum xs (rw (count-read s o e) at f) m r
+read-write p s maximum xs o e f m r = writes-back p s o e maximum xs (rw (count-read p s o e) at f) m r
 
 -- both reports are what the writer writes into the same room from the same header and entries
 pub equal-bytes : EqualBytes
-equal-bytes s t o q same = sym (a .bytes) ∙ rw (long, same .headers, same .entries) (b .bytes)
+equal-bytes p s t o q same = sym (a .bytes) ∙ rw (long, same .headers, same .entries) (b .bytes)
   where
     xs : List ℕ
     xs = s ++ t
 
-    a : WritesBack s mostEntries xs
-    a = read-write s mostEntries xs o (same .accepted .0) (entries-few s o (same .accepted .0)) (omega arith) (rw length-append (omega arith))
+    a : WritesBack p s mostEntries xs
+    a = read-write p s mostEntries xs o (same .accepted .0) (entries-few p s o (same .accepted .0)) (omega arith) (rw length-append (omega arith))
 
-    b : WritesBack t mostEntries xs
-    b = read-write t mostEntries xs q (same .accepted .1) (entries-few t q (same .accepted .1)) (omega arith) (rw length-append (omega arith))
+    b : WritesBack p t mostEntries xs
+    b = read-write p t mostEntries xs q (same .accepted .1) (entries-few p t q (same .accepted .1)) (omega arith) (rw length-append (omega arith))
 
-    same-answer : Done (length s) (readReport s .header .entries) ≡ Done (length t) (readReport t .header .entries)
+    same-answer : Done (length s) (readReport p s .header .entries) ≡ Done (length t) (readReport p t .header .entries)
     same-answer = a .answer ∙ rw (same .headers, same .entries) (sym (b .answer))
 
     long : length s ≡ length t

@@ -1,5 +1,6 @@
 pub mod Signed
 pub mod Rows
+pub mod Numbered
 pub mod Whole
 pub mod Planning
 pub mod Only
@@ -14,3 +15,4 @@ pub mod Metrics
 pub mod Refusing
 pub mod Maximum
 pub mod Agreeing
+pub mod ByNumber

@@ -5,7 +5,8 @@ use mathlib.Core.Path.{_≡_, sym, ap, _∙_}
 use native.Mathlib.Omega.{arith}
 use lib.ListN.{length}
 use Rattle.wire.specs.Numbers.{encodeAll}
-use Rattle.entries.specs.Limits.{recordSize}
+use Rattle.entries.specs.Profiles.{recordSize}
+use Rattle.entries.specs.declared.Profile.{Profile}
 use Rattle.entries.specs.Exactly.{KeptStill}
 use Rattle.entries.proofs.Largest.{records-stay}
 use Rattle.report.specs.Header.{numbersOf}
@@ -17,27 +18,27 @@ use Rattle.report.proofs.Back.{write-read, write-keeps}
 use Rattle.report.proofs.Refusing.{report-writes}
 
 pub never-drops : NeverDrops
-never-drops h entries maximum maximum' xs ys next next' kept kept' m l p q =
-    let size : ℕ = length (encodeAll (numbersOf h)) in
-    let a = plan-accepted (numbersOf h) entries maximum (length xs) next kept p in
-    let b = plan-accepted (numbersOf h) entries maximum' (length ys) next' kept' q in
-    let t : KeptStill entries kept kept' = rw (a .many, b .many) (records-stay entries maximum maximum' (length xs - size) (length ys - size) m (omega arith)) in
+never-drops p h entries maximum maximum' xs ys next next' kept kept' m l d q =
+    let size : ℕ = length (encodeAll (numbersOf p h)) in
+    let a = plan-accepted p (numbersOf p h) entries maximum (length xs) next kept d in
+    let b = plan-accepted p (numbersOf p h) entries maximum' (length ys) next' kept' q in
+    let t : KeptStill p entries kept kept' = rw (a .many, b .many) (records-stay p entries maximum maximum' (length xs - size) (length ys - size) m (omega arith)) in
     record {
       more = t .more;
-      last = write-read h entries maximum xs next kept p .records ∙ t .last ∙ rw (write-read h entries maximum' ys next' kept' q .records);
+      last = write-read p h entries maximum xs next kept d .records ∙ t .last ∙ rw (write-read p h entries maximum' ys next' kept' q .records);
     }
 
 pub stays-accepted : StaysAccepted
-stays-accepted h entries maximum maximum' room room' m l e =
-    let p = report-writes h entries maximum room .accepted .0 e in
-    report-writes h entries maximum' room' .accepted .1
-    (record { front = record { header = p .0 .front .header; within = m }; records = p .0 .records }, omega (arith, p .1))
+stays-accepted p h entries maximum maximum' room room' m l e =
+    let a = report-writes p h entries maximum room .accepted .0 e in
+    report-writes p h entries maximum' room' .accepted .1
+    (record { front = record { header = a .0 .front .header; within = m }; records = a .0 .records }, omega (arith, a .1))
 
 pub for-old-receivers : ForOldReceivers
 unfolding sentAs
-for-old-receivers h entries maximum xs next kept p =
-    let r = write-read h entries maximum xs next kept p .header in
+for-old-receivers p h entries maximum xs next kept d =
+    let r = write-read p h entries maximum xs next kept d .header in
     record {
       accepted = ap (λ (x : Report). x .refusal) r;
-      few = rw r (write-keeps h entries maximum xs next kept p .limit);
+      few = rw r (write-keeps p h entries maximum xs next kept d .limit);
     }

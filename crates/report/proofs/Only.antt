@@ -23,7 +23,7 @@ pub entries-of-one : (κs : Lfts 1) (given : Dens κs entries-of-kinds.ps) (x y 
     → entries-of.Post κs given x s → entries-of.Post κs given y t → now x ≡ now y
 entries-of-one κs given x y s t p q = p ∙ sym q
 
-pub write-report-one : OneBuffer 2 write-report-kinds.ps write-report-kinds.r (λ κs s. now (s .0)) write-report.Post
+pub write-report-one : OneBuffer 2 write-report-kinds.ps write-report-kinds.r (λ κs s. now (s .1 .0)) write-report.Post
 write-report-one κs given x y s t p q = (p .0 ∙ sym (q .0), p .1 ∙ sym (q .1))
 
 pub written-refusal-one : OneAnswer 0 written-refusal-kinds.ps written-refusal-kinds.r written-refusal.Post

@@ -7,15 +7,17 @@ use native.Mathlib.Nat.{min-eq-left, zero-add}
 use native.Mathlib.Omega.{arith}
 use borrow.Author.Tests.{lt-ltb, le-ltb}
 use lib.Dec.{ltb}
-use lib.ListN.{length, getD, length-append, List·getD-append}
+use lib.ListN.{length, getD, take, length-append, List·getD-append}
 use lib.IntN.{ℤ}
-use lib.Seq.{getD-append-seam, getD-append-add}
+use lib.Seq.{getD-append-seam, getD-append-add, take-append-add}
 use Rattle.wire.specs.Bytes.{pick}
 use Rattle.wire.proofs.Lengths.{split}
 use Rattle.report.specs.Layout.{atAverage, atMetrics, fixedNumbers, atType, atValue}
-use Rattle.report.specs.Limits.{mostMetrics}
+use Rattle.entries.specs.Profiles.{mostMetrics}
+use Rattle.entries.specs.declared.Profile.{Profile}
+use Rattle.report.specs.Limits.{metricPlaces}
 use Rattle.report.specs.Average.{storedOf, averageOf}
-use Rattle.report.specs.Header.{countOf, each, metricAt, headerOf, pairs, numbersOf}
+use Rattle.report.specs.Header.{countOf, each, metricAt, headerOf, pairs, withMetrics, numbersOf}
 use Rattle.report.specs.EachWay.{sentAs}
 use Rattle.report.specs.declared.Header.{Header}
 use Rattle.report.proofs.Signed.{average-stored}
@@ -31,9 +33,24 @@ pub count-last : (ns : List ℕ) (k : ℕ) → countOf (ns ++ (k ∷ [])) ≡ k
 count-last ns k = let n : length (ns ++ (k ∷ [])) - 1 ≡ length ns = rw length-append (omega arith) in rw n (getD-append-seam ns k [] 0)
 
 -- the metric count stands at its place, whatever follows the numbers
-pub metrics-there : (h : Header) (vs : List ℕ) → getD (numbersOf h ++ vs) atMetrics 0 ≡ h .metrics
+pub metrics-there : (p : Profile) (h : Header) (vs : List ℕ) → getD (numbersOf p h ++ vs) atMetrics 0 ≡ h .metrics
 unfolding numbersOf
-metrics-there h vs = refl
+metrics-there p h vs = refl
+
+-- the first metrics of all that a header has places for
+take-pairs : (m n i : ℕ) (ks vs zs : List ℕ) → m ≤ n → take (2 * m) (pairs n i ks vs ++ zs) ≡ pairs m i ks vs
+unfolding pairs
+take-pairs zero n i ks vs zs h = refl
+take-pairs (suc m) zero i ks vs zs h = absurd (omega arith)
+take-pairs (suc m) (suc n) i ks vs zs h = let e : 2 * suc m ≡ suc (suc (2 * m)) = omega arith in rw (e, take-pairs m n (suc i) ks vs zs (omega arith))
+
+-- the numbers that are looked at come first of all that the code lays out
+pub numbers-first : (p : Profile) (h : Header) (m : ℕ) → m ≡ min (h .metrics) (mostMetrics p) → m ≤ metricPlaces → take (fixedNumbers + 2 * m) (withMetrics h metricPlaces ++ (0 ∷ [])) ≡ numbersOf p h
+unfolding numbersOf
+numbers-first p h m e l =
+    let fixed : List ℕ = h .timestamp ∷ h .interval ∷ h .total ∷ h .received ∷ h .late ∷ h .lost ∷ storedOf (h .average) ∷ h .metrics ∷ [] in
+    take-append-add fixed (pairs metricPlaces 0 (h .kinds) (h .values) ++ (0 ∷ [])) (2 * m)
+    ∙ ap (λ (ys : List ℕ). fixed ++ ys) (take-pairs m metricPlaces 0 (h .kinds) (h .values) (0 ∷ []) l ∙ ap (λ (n : ℕ). pairs n 0 (h .kinds) (h .values)) e)
 
 -- ---- the header that they make
 
@@ -57,19 +74,19 @@ pair-value (suc n) b (suc i) ks vs h =
     let e : 2 * suc i + 1 ≡ suc (suc (2 * i + 1)) = omega arith in
     rw e (pair-value n (suc b) i ks vs (omega arith) ∙ ap (λ (x : ℕ). getD vs x 0) (omega arith))
 
-module _ (h : Header) (k : ℕ) (l : h .metrics ≤ mostMetrics) where
+module _ (p : Profile) (h : Header) (k : ℕ) (l : h .metrics ≤ mostMetrics p) where
   abbrev sent : List ℕ
-  sent = numbersOf h ++ (k ∷ [])
+  sent = numbersOf p h ++ (k ∷ [])
 
   abbrev metrics : List ℕ
-  metrics = pairs (min (h .metrics) mostMetrics) 0 (h .kinds) (h .values)
+  metrics = pairs (min (h .metrics) (mostMetrics p)) 0 (h .kinds) (h .values)
 
   -- among the metrics, and before the entry count
-  metric-there : (p : ℕ) → p < 2 * h .metrics → getD sent (fixedNumbers + p) 0 ≡ getD metrics p 0
+  metric-there : (q : ℕ) → q < 2 * h .metrics → getD sent (fixedNumbers + q) 0 ≡ getD metrics q 0
   unfolding numbersOf
-  metric-there p q =
-      getD-append-add (h .timestamp ∷ h .interval ∷ h .total ∷ h .received ∷ h .late ∷ h .lost ∷ storedOf (h .average) ∷ h .metrics ∷ []) (metrics ++ (k ∷ [])) p 0
-      ∙ List·getD-append metrics (k ∷ []) 0 p (omega (arith, length-pairs (min (h .metrics) mostMetrics) 0 (h .kinds) (h .values), min-eq-left l))
+  metric-there q r =
+      getD-append-add (h .timestamp ∷ h .interval ∷ h .total ∷ h .received ∷ h .late ∷ h .lost ∷ storedOf (h .average) ∷ h .metrics ∷ []) (metrics ++ (k ∷ [])) q 0
+      ∙ List·getD-append metrics (k ∷ []) 0 q (omega (arith, length-pairs (min (h .metrics) (mostMetrics p)) 0 (h .kinds) (h .values), min-eq-left l))
 
   counted : (place : ℕ → ℕ) (xs : List ℕ) → ((i : ℕ) → i < h .metrics → getD sent (place i) 0 ≡ getD xs i 0) → (i : ℕ) → metricAt sent i (place i) ≡ pick (ltb i (h .metrics)) (getD xs i 0) 0
   counted place xs f i =
@@ -85,11 +102,11 @@ module _ (h : Header) (k : ℕ) (l : h .metrics ≤ mostMetrics) where
       let e : atValue i ≡ fixedNumbers + (2 * i + 1) = omega arith in
       rw e (metric-there (2 * i + 1) (omega arith) ∙ rw (min-eq-left l) (pair-value (h .metrics) 0 i (h .kinds) (h .values) q ∙ ap (λ (x : ℕ). getD (h .values) x 0) (zero-add i)))
 
-  sent-kinds : each mostMetrics 0 (λ i. metricAt sent i (atType i)) ≡ each mostMetrics 0 (λ i. pick (ltb i (h .metrics)) (getD (h .kinds) i 0) 0)
-  sent-kinds = each-same mostMetrics 0 (λ i. metricAt sent i (atType i)) (λ i. pick (ltb i (h .metrics)) (getD (h .kinds) i 0) 0) (counted atType (h .kinds) sent-kind)
+  sent-kinds : each metricPlaces 0 (λ i. metricAt sent i (atType i)) ≡ each metricPlaces 0 (λ i. pick (ltb i (h .metrics)) (getD (h .kinds) i 0) 0)
+  sent-kinds = each-same metricPlaces 0 (λ i. metricAt sent i (atType i)) (λ i. pick (ltb i (h .metrics)) (getD (h .kinds) i 0) 0) (counted atType (h .kinds) sent-kind)
 
-  sent-values : each mostMetrics 0 (λ i. metricAt sent i (atValue i)) ≡ each mostMetrics 0 (λ i. pick (ltb i (h .metrics)) (getD (h .values) i 0) 0)
-  sent-values = each-same mostMetrics 0 (λ i. metricAt sent i (atValue i)) (λ i. pick (ltb i (h .metrics)) (getD (h .values) i 0) 0) (counted atValue (h .values) sent-value)
+  sent-values : each metricPlaces 0 (λ i. metricAt sent i (atValue i)) ≡ each metricPlaces 0 (λ i. pick (ltb i (h .metrics)) (getD (h .values) i 0) 0)
+  sent-values = each-same metricPlaces 0 (λ i. metricAt sent i (atValue i)) (λ i. pick (ltb i (h .metrics)) (getD (h .values) i 0) 0) (counted atValue (h .values) sent-value)
 
   sent-average : averageOf (getD sent atAverage 0) ≡ h .average
   unfolding numbersOf
@@ -113,11 +130,11 @@ module _ (h : Header) (k : ℕ) (l : h .metrics ≤ mostMetrics) where
   pub header-sent : headerOf sent ≡ sentAs h k
   unfolding headerOf sentAs numbersOf
   header-sent =
-      let ks : List ℕ = each mostMetrics 0 (λ i. metricAt sent i (atType i)) in
-      let vs : List ℕ = each mostMetrics 0 (λ i. metricAt sent i (atValue i)) in
-      let js : List ℕ = each mostMetrics 0 (λ i. pick (ltb i (h .metrics)) (getD (h .kinds) i 0) 0) in
-      let us : List ℕ = each mostMetrics 0 (λ i. pick (ltb i (h .metrics)) (getD (h .values) i 0) 0) in
+      let ks : List ℕ = each metricPlaces 0 (λ i. metricAt sent i (atType i)) in
+      let vs : List ℕ = each metricPlaces 0 (λ i. metricAt sent i (atValue i)) in
+      let js : List ℕ = each metricPlaces 0 (λ i. pick (ltb i (h .metrics)) (getD (h .kinds) i 0) 0) in
+      let us : List ℕ = each metricPlaces 0 (λ i. pick (ltb i (h .metrics)) (getD (h .values) i 0) 0) in
       ap (λ (a : ℤ). with a ks vs (countOf sent)) sent-average
       ∙ ap (λ (l : List ℕ). with (h .average) l vs (countOf sent)) sent-kinds
       ∙ ap (λ (l : List ℕ). with (h .average) js l (countOf sent)) sent-values
-      ∙ ap (λ (e : ℕ). with (h .average) js us e) (count-last (numbersOf h) k)
+      ∙ ap (λ (e : ℕ). with (h .average) js us e) (count-last (numbersOf p h) k)

@@ -14,48 +14,13 @@ use Rattle.wire.specs.Bytes.{pick}
 use Rattle.wire.specs.Fields.{formed}
 use Rattle.wire.specs.Numbers.{readNumber}
 use Rattle.wire.specs.declared.Number.the-variants.{Value, Ends}
-use Rattle.entries.specs.Limits.{recordSize}
+use Rattle.entries.specs.Profiles.{recordSize}
+use Rattle.entries.specs.declared.Profile.{Profile}
 use Rattle.report.specs.Limits.{mostNumbers}
 use Rattle.report.specs.Header.{judgeField, wantedOf, countOf, headerOf, emptyHeader}
 use Rattle.entries.specs.Entries.{entriesGood}
 use Rattle.report.specs.Reader.{Reading, Whole, Stopped, numbersFrom, readNumbers, partOf, judgeEntries, reportReading, reportOf, readReport, entriesIn, entriesOf, readingOf}
 use Rattle.report.specs.declared.NumbersRead.{NumbersRead}
-
--- ---- the numbers so far are the first count of an array
-
-module _ (s numbers : List ℕ) (at count : ℕ) (R : Reading) (h : count < mostNumbers) (l : length numbers ≡ mostNumbers)
-    (inv : numbersFrom (mostNumbers - count) s at (take count numbers) ≡ R) where
-  so-far : length (take count numbers) ≡ count
-  so-far = length-take-le count numbers (omega arith)
-
-  opened : pick (leb (wantedOf (take count numbers)) count) (Whole (take count numbers) at)
-      (formed (readNumber s at) (Stopped 2) (λ v next b.
-      pick (eqb (judgeField (take count numbers) v b) 0) (numbersFrom (mostNumbers - (count + 1)) s next (take count numbers ++ (v ∷ []))) (Stopped (judgeField (take count numbers) v b)))) ≡ R
-  unfolding numbersFrom
-  opened = let e : mostNumbers - count ≡ suc (mostNumbers - (count + 1)) = omega arith in rw (e, so-far) at inv
-
-  pub whole-now : wantedOf (take count numbers) ≤ count → Whole (take count numbers) at ≡ R
-  whole-now w = rw (le-leb (wantedOf (take count numbers)) count w) at opened
-
-  going : count < wantedOf (take count numbers) → formed (readNumber s at) (Stopped 2) (λ v next b.
-      pick (eqb (judgeField (take count numbers) v b) 0) (numbersFrom (mostNumbers - (count + 1)) s next (take count numbers ++ (v ∷ []))) (Stopped (judgeField (take count numbers) v b))) ≡ R
-  going w = rw (lt-leb (wantedOf (take count numbers)) count w) at opened
-
-  pub ends-now : count < wantedOf (take count numbers) → readNumber s at ≡ Ends → Stopped 2 ≡ R
-  ends-now w e = rw e at (going w)
-
-  module _ (v next r : ℕ) (b : Bool) (w : count < wantedOf (take count numbers)) (e : readNumber s at ≡ Value v next b) (j : r ≡ judgeField (take count numbers) v b) where
-    pub refused-now : (r ≡ 0 → ⊥) → Stopped r ≡ R
-    refused-now n = ap Stopped j ∙ (rw (e, ne-eqb (judgeField (take count numbers) v b) 0 (λ z. n (j ∙ z))) at (going w))
-
-    pub more-now : r ≡ 0 → numbersFrom (mostNumbers - (count + 1)) s next (take (count + 1) (set numbers count v)) ≡ R
-    more-now z =
-        let g : numbersFrom (mostNumbers - (count + 1)) s next (take count numbers ++ (v ∷ [])) ≡ R = rw (e, eq-eqb (judgeField (take count numbers) v b) 0 (sym j ∙ z)) at (going w) in
-        ap (numbersFrom (mostNumbers - (count + 1)) s next) (ap (λ (n : ℕ). take n (set numbers count v)) (add-one count) ∙ take-suc-set numbers count v (omega arith)) ∙ g
-
-pub full-now : (s numbers : List ℕ) (at count : ℕ) (R : Reading) → mostNumbers ≤ count → numbersFrom (mostNumbers - count) s at (take count numbers) ≡ R → Whole (take count numbers) at ≡ R
-unfolding numbersFrom
-full-now s numbers at count R h inv = let e : mostNumbers - count ≡ 0 = omega arith in rw e at inv
 
 -- ---- what the code's own answer holds
 
@@ -67,80 +32,117 @@ pub found-stopped : (f : NumbersRead) (n : ℕ) → f .refusal ≡ n → (n ≡ 
 unfolding readingOf
 found-stopped f n e z = rw (ne-eqb (f .refusal) 0 (λ t. z (sym e ∙ t)), e)
 
--- ---- after the numbers
+module _ (p : Profile) where
+  -- ---- the numbers so far are the first count of an array
 
-pub stopped-judged : (s : List ℕ) (f : NumbersRead) → (f .refusal ≡ 0 → ⊥) → readingOf f ≡ readNumbers s → readingOf f ≡ reportReading s
-unfolding reportReading judgeEntries
-stopped-judged s f n e =
-    let t : Stopped (f .refusal) ≡ readNumbers s = sym (found-stopped f (f .refusal) refl n) ∙ e in
-    found-stopped f (f .refusal) refl n ∙ ap (judgeEntries s) t
+  module _ (s numbers : List ℕ) (at count : ℕ) (R : Reading) (h : count < mostNumbers) (l : length numbers ≡ mostNumbers)
+      (inv : numbersFrom p (mostNumbers - count) s at (take count numbers) ≡ R) where
+    so-far : length (take count numbers) ≡ count
+    so-far = length-take-le count numbers (omega arith)
 
-module _ (s : List ℕ) (f : NumbersRead) (z : f .refusal ≡ 0) (e : readingOf f ≡ readNumbers s) (k : ℕ) (c : k ≡ countOf (take (f .count) (f .numbers))) where
-  abbrev ns : List ℕ
-  ns = take (f .count) (f .numbers)
+    opened : pick (leb (wantedOf p (take count numbers)) count) (Whole (take count numbers) at)
+        (formed (readNumber s at) (Stopped 2) (λ v next b.
+        pick (eqb (judgeField p (take count numbers) v b) 0) (numbersFrom p (mostNumbers - (count + 1)) s next (take count numbers ++ (v ∷ []))) (Stopped (judgeField p (take count numbers) v b)))) ≡ R
+    unfolding numbersFrom
+    opened = let e : mostNumbers - count ≡ suc (mostNumbers - (count + 1)) = omega arith in rw (e, so-far) at inv
 
-  after : reportReading s ≡ judgeEntries s (Whole ns (f .next))
-  unfolding reportReading
-  after = ap (judgeEntries s) (sym e ∙ found-whole f z)
+    pub whole-now : wantedOf p (take count numbers) ≤ count → Whole (take count numbers) at ≡ R
+    whole-now w = rw (le-leb (wantedOf p (take count numbers)) count w) at opened
 
-  pub too-few : length s < f .next + recordSize * k → Stopped 2 ≡ reportReading s
-  unfolding judgeEntries
-  too-few h = rw (after, ← c, lt-leb (f .next + recordSize * k) (length s) h)
+    going : count < wantedOf p (take count numbers) → formed (readNumber s at) (Stopped 2) (λ v next b.
+        pick (eqb (judgeField p (take count numbers) v b) 0) (numbersFrom p (mostNumbers - (count + 1)) s next (take count numbers ++ (v ∷ []))) (Stopped (judgeField p (take count numbers) v b))) ≡ R
+    going w = rw (lt-leb (wantedOf p (take count numbers)) count w) at opened
 
-  module _ (h : f .next + recordSize * k ≤ length s) where
-    pub broken : false ≡ entriesGood (take (recordSize * k) (drop (f .next) s)) → Stopped 12 ≡ reportReading s
+    pub ends-now : count < wantedOf p (take count numbers) → readNumber s at ≡ Ends → Stopped 2 ≡ R
+    ends-now w e = rw e at (going w)
+
+    module _ (v next r : ℕ) (b : Bool) (w : count < wantedOf p (take count numbers)) (e : readNumber s at ≡ Value v next b) (j : r ≡ judgeField p (take count numbers) v b) where
+      pub refused-now : (r ≡ 0 → ⊥) → Stopped r ≡ R
+      refused-now n = ap Stopped j ∙ (rw (e, ne-eqb (judgeField p (take count numbers) v b) 0 (λ z. n (j ∙ z))) at (going w))
+
+      pub more-now : r ≡ 0 → numbersFrom p (mostNumbers - (count + 1)) s next (take (count + 1) (set numbers count v)) ≡ R
+      more-now z =
+          let g : numbersFrom p (mostNumbers - (count + 1)) s next (take count numbers ++ (v ∷ [])) ≡ R = rw (e, eq-eqb (judgeField p (take count numbers) v b) 0 (sym j ∙ z)) at (going w) in
+          ap (numbersFrom p (mostNumbers - (count + 1)) s next) (ap (λ (n : ℕ). take n (set numbers count v)) (add-one count) ∙ take-suc-set numbers count v (omega arith)) ∙ g
+
+  pub full-now : (s numbers : List ℕ) (at count : ℕ) (R : Reading) → mostNumbers ≤ count → numbersFrom p (mostNumbers - count) s at (take count numbers) ≡ R → Whole (take count numbers) at ≡ R
+  unfolding numbersFrom
+  full-now s numbers at count R h inv = let e : mostNumbers - count ≡ 0 = omega arith in rw e at inv
+
+  -- ---- after the numbers
+
+  pub stopped-judged : (s : List ℕ) (f : NumbersRead) → (f .refusal ≡ 0 → ⊥) → readingOf f ≡ readNumbers p s → readingOf f ≡ reportReading p s
+  unfolding reportReading judgeEntries
+  stopped-judged s f n e =
+      let t : Stopped (f .refusal) ≡ readNumbers p s = sym (found-stopped f (f .refusal) refl n) ∙ e in
+      found-stopped f (f .refusal) refl n ∙ ap (judgeEntries p s) t
+
+  module _ (s : List ℕ) (f : NumbersRead) (z : f .refusal ≡ 0) (e : readingOf f ≡ readNumbers p s) (k : ℕ) (c : k ≡ countOf (take (f .count) (f .numbers))) where
+    abbrev ns : List ℕ
+    ns = take (f .count) (f .numbers)
+
+    after : reportReading p s ≡ judgeEntries p s (Whole ns (f .next))
+    unfolding reportReading
+    after = ap (judgeEntries p s) (sym e ∙ found-whole f z)
+
+    pub too-few : length s < f .next + recordSize p * k → Stopped 2 ≡ reportReading p s
     unfolding judgeEntries
-    broken g = rw (after, ← c, le-leb (f .next + recordSize * k) (length s) h, ← g)
+    too-few h = rw (after, ← c, lt-leb (f .next + recordSize p * k) (length s) h)
 
-    pub behind : true ≡ entriesGood (take (recordSize * k) (drop (f .next) s)) → f .next + recordSize * k < length s → Stopped 13 ≡ reportReading s
-    unfolding judgeEntries
-    behind g l = rw (after, ← c, le-leb (f .next + recordSize * k) (length s) h, ← g, ne-eqb (f .next + recordSize * k) (length s) (λ q. omega arith))
+    module _ (h : f .next + recordSize p * k ≤ length s) where
+      pub broken : false ≡ entriesGood p (take (recordSize p * k) (drop (f .next) s)) → Stopped 12 ≡ reportReading p s
+      unfolding judgeEntries
+      broken g = rw (after, ← c, le-leb (f .next + recordSize p * k) (length s) h, ← g)
 
-    pub accepted : true ≡ entriesGood (take (recordSize * k) (drop (f .next) s)) → length s ≤ f .next + recordSize * k → readingOf f ≡ reportReading s
-    unfolding judgeEntries
-    accepted g l = found-whole f z ∙ rw (after, ← c, le-leb (f .next + recordSize * k) (length s) h, ← g, eq-eqb (f .next + recordSize * k) (length s) (omega arith))
+      pub behind : true ≡ entriesGood p (take (recordSize p * k) (drop (f .next) s)) → f .next + recordSize p * k < length s → Stopped 13 ≡ reportReading p s
+      unfolding judgeEntries
+      behind g l = rw (after, ← c, le-leb (f .next + recordSize p * k) (length s) h, ← g, ne-eqb (f .next + recordSize p * k) (length s) (λ q. omega arith))
 
--- ---- what reader and companion answer
+      pub accepted : true ≡ entriesGood p (take (recordSize p * k) (drop (f .next) s)) → length s ≤ f .next + recordSize p * k → readingOf f ≡ reportReading p s
+      unfolding judgeEntries
+      accepted g l = found-whole f z ∙ rw (after, ← c, le-leb (f .next + recordSize p * k) (length s) h, ← g, eq-eqb (f .next + recordSize p * k) (length s) (omega arith))
 
-pub report-stopped : (s : List ℕ) (f : NumbersRead) → (f .refusal ≡ 0 → ⊥) → readingOf f ≡ reportReading s → record { refusal = f .refusal; header = emptyHeader } ≡ readReport s
-unfolding reportOf
-report-stopped s f n e = ap reportOf (sym (found-stopped f (f .refusal) refl n) ∙ e)
+  -- ---- what reader and companion answer
 
-pub report-whole : (s : List ℕ) (f : NumbersRead) → f .refusal ≡ 0 → readingOf f ≡ reportReading s → record { refusal = f .refusal; header = headerOf (take (f .count) (f .numbers)) } ≡ readReport s
-unfolding reportOf
-report-whole s f z e = rw z (ap reportOf (sym (found-whole f z) ∙ e))
+  pub report-stopped : (s : List ℕ) (f : NumbersRead) → (f .refusal ≡ 0 → ⊥) → readingOf f ≡ reportReading p s → record { refusal = f .refusal; header = emptyHeader } ≡ readReport p s
+  unfolding reportOf
+  report-stopped s f n e = ap reportOf (sym (found-stopped f (f .refusal) refl n) ∙ e)
 
-pub none-stopped : (s : List ℕ) (f : NumbersRead) → (f .refusal ≡ 0 → ⊥) → readingOf f ≡ reportReading s → [] ≡ entriesOf s
-unfolding entriesIn
-none-stopped s f n e = ap (entriesIn s) (sym (found-stopped f (f .refusal) refl n) ∙ e)
+  pub report-whole : (s : List ℕ) (f : NumbersRead) → f .refusal ≡ 0 → readingOf f ≡ reportReading p s → record { refusal = f .refusal; header = headerOf (take (f .count) (f .numbers)) } ≡ readReport p s
+  unfolding reportOf
+  report-whole s f z e = rw z (ap reportOf (sym (found-whole f z) ∙ e))
 
--- what an accepted report says
-pub record Judged (s ns : List ℕ) (at : ℕ) : Type 0 where
-  pub numbers : readNumbers s ≡ Whole ns at
-  pub good : entriesGood (partOf s ns at) ≡ true
-  pub end : at + recordSize * countOf ns ≡ length s
+  pub none-stopped : (s : List ℕ) (f : NumbersRead) → (f .refusal ≡ 0 → ⊥) → readingOf f ≡ reportReading p s → [] ≡ entriesOf p s
+  unfolding entriesIn
+  none-stopped s f n e = ap (entriesIn p s) (sym (found-stopped f (f .refusal) refl n) ∙ e)
 
-pub judged-whole : (s ns : List ℕ) (at : ℕ) → Whole ns at ≡ reportReading s → Judged s ns at
-unfolding reportReading judgeEntries
-judged-whole s ns at e = by (readNumbers s) refl e
-  where
-    by : (r : Reading) → readNumbers s ≡ r → Whole ns at ≡ judgeEntries s r → Judged s ns at
-    by (Stopped n) f e = let q : _≡_ {A = ℕ} 0 1 = cc in absurd (omega arith)
-    by (Whole ms to) f e = go (leb (to + recordSize * countOf ms) (length s)) (entriesGood (partOf s ms to)) (eqb (to + recordSize * countOf ms) (length s)) refl refl e
-      where
-        go : (a b c : Bool) → entriesGood (partOf s ms to) ≡ b → eqb (to + recordSize * countOf ms) (length s) ≡ c → Whole ns at ≡ pick a (pick b (pick c (Whole ms to) (Stopped 13)) (Stopped 12)) (Stopped 2) → Judged s ns at
-        go true true true g t e =
-            let p : ns ≡ ms = cc in
-            let q : at ≡ to = cc in
-            record { numbers = f ∙ sym e; good = rw (p, q) g; end = rw (p, q) (eqb-true (to + recordSize * countOf ms) (length s) t) }
-        go true true false g t e = let q : _≡_ {A = ℕ} 0 1 = cc in absurd (omega arith)
-        go true false c g t e = let q : _≡_ {A = ℕ} 0 1 = cc in absurd (omega arith)
-        go false b c g t e = let q : _≡_ {A = ℕ} 0 1 = cc in absurd (omega arith)
+  -- what an accepted report says
+  pub record Judged (s ns : List ℕ) (at : ℕ) : Type 0 where
+    pub numbers : readNumbers p s ≡ Whole ns at
+    pub good : entriesGood p (partOf p s ns at) ≡ true
+    pub end : at + recordSize p * countOf ns ≡ length s
 
-pub part-whole : (s : List ℕ) (f : NumbersRead) → f .refusal ≡ 0 → readingOf f ≡ reportReading s → take (length s - f .next) (drop (f .next) s) ≡ entriesOf s
-unfolding entriesIn
-part-whole s f z e =
-    let w : Whole (take (f .count) (f .numbers)) (f .next) ≡ reportReading s = sym (found-whole f z) ∙ e in
-    let l = judged-whole s (take (f .count) (f .numbers)) (f .next) w .end in
-    let m : length s - f .next ≡ recordSize * countOf (take (f .count) (f .numbers)) = omega arith in
-    rw m (ap (entriesIn s) w)
+  pub judged-whole : (s ns : List ℕ) (at : ℕ) → Whole ns at ≡ reportReading p s → Judged s ns at
+  unfolding reportReading judgeEntries
+  judged-whole s ns at e = by (readNumbers p s) refl e
+    where
+      by : (r : Reading) → readNumbers p s ≡ r → Whole ns at ≡ judgeEntries p s r → Judged s ns at
+      by (Stopped n) f e = let q : _≡_ {A = ℕ} 0 1 = cc in absurd (omega arith)
+      by (Whole ms to) f e = go (leb (to + recordSize p * countOf ms) (length s)) (entriesGood p (partOf p s ms to)) (eqb (to + recordSize p * countOf ms) (length s)) refl refl e
+        where
+          go : (a b c : Bool) → entriesGood p (partOf p s ms to) ≡ b → eqb (to + recordSize p * countOf ms) (length s) ≡ c → Whole ns at ≡ pick a (pick b (pick c (Whole ms to) (Stopped 13)) (Stopped 12)) (Stopped 2) → Judged s ns at
+          go true true true g t e =
+              let n : ns ≡ ms = cc in
+              let q : at ≡ to = cc in
+              record { numbers = f ∙ sym e; good = rw (n, q) g; end = rw (n, q) (eqb-true (to + recordSize p * countOf ms) (length s) t) }
+          go true true false g t e = let q : _≡_ {A = ℕ} 0 1 = cc in absurd (omega arith)
+          go true false c g t e = let q : _≡_ {A = ℕ} 0 1 = cc in absurd (omega arith)
+          go false b c g t e = let q : _≡_ {A = ℕ} 0 1 = cc in absurd (omega arith)
+
+  pub part-whole : (s : List ℕ) (f : NumbersRead) → f .refusal ≡ 0 → readingOf f ≡ reportReading p s → take (length s - f .next) (drop (f .next) s) ≡ entriesOf p s
+  unfolding entriesIn
+  part-whole s f z e =
+      let w : Whole (take (f .count) (f .numbers)) (f .next) ≡ reportReading p s = sym (found-whole f z) ∙ e in
+      let l = judged-whole s (take (f .count) (f .numbers)) (f .next) w .end in
+      let m : length s - f .next ≡ recordSize p * countOf (take (f .count) (f .numbers)) = omega arith in
+      rw m (ap (entriesIn p s) w)

@@ -7,55 +7,53 @@ use lib.ListN.{length, getD}
 use lib.IntN.{pos}
 use Rattle.wire.specs.Bytes.{pick}
 use Rattle.entries.specs.Limits.{mostEntries}
+use Rattle.entries.specs.Profiles.{mostMetrics, typeAllowed}
 use Rattle.report.specs.Layout.{atTimestamp, atInterval, atTotal, atReceived, atLate, atLost, atAverage, atMetrics, fixedNumbers, atType, atValue}
-use Rattle.report.specs.Limits.{mostMetrics}
+use Rattle.report.specs.Limits.{metricPlaces}
 use Rattle.report.specs.Average.{storedOf, averageOf}
+use Rattle.entries.specs.declared.Profile.{Profile}
 use Rattle.report.specs.declared.Header.{Header}
 
 -- the refusal n unless the test holds
 abbrev pub unless : ℕ → Bool → ℕ
 unless n ok = pick ok 0 n
 
--- ---- what each number brings: ns are the numbers so far, v the next one
-
--- "from 0x02, 0x04, 0x10, 0x12"
-abbrev pub knownType : ℕ → Bool
-knownType v = pick (eqb v 0x02) true (pick (eqb v 0x04) true (pick (eqb v 0x10) true (eqb v 0x12)))
+-- ---- what each number brings: p is the report's profile, ns are the numbers so far, v the next one
 
 -- "types strictly rising": the first one, or above the one before it
 abbrev pub typeRises : List ℕ → ℕ → Bool
 typeRises ns v = pick (eqb (length ns) fixedNumbers) true (ltb (getD ns (length ns - 2) 0) v)
 
 -- behind the metrics that were counted the entry count, otherwise a type
-unfoldable pub judgeLater : List ℕ → ℕ → ℕ
-judgeLater ns v =
+unfoldable pub judgeLater : Profile → List ℕ → ℕ → ℕ
+judgeLater p ns v =
     pick (eqb ((length ns - fixedNumbers) / 2) (getD ns atMetrics 0)) (unless 10 (leb v mostEntries))
-    (unless 10 (pick (knownType v) (typeRises ns v) false))
+    (unless 10 (pick (typeAllowed p v) (typeRises ns v) false))
 
 -- "The sum (11) is checked after lost; 10 after each count or type"; 0 for no refusal, as for a metric's value
-unfoldable pub judge : List ℕ → ℕ → ℕ
-judge ns v =
+unfoldable pub judge : Profile → List ℕ → ℕ → ℕ
+judge p ns v =
     pick (eqb (length ns) atLost) (unless 11 (eqb (getD ns atTotal 0) (getD ns atReceived 0 + getD ns atLate 0 + v)))
-    (pick (eqb (length ns) atMetrics) (unless 10 (leb v mostMetrics))
+    (pick (eqb (length ns) atMetrics) (unless 10 (leb v (mostMetrics p)))
     (pick (ltb (length ns) fixedNumbers) 0
     (pick (eqb (length ns % 2) 1) 0
-    (judgeLater ns v))))
+    (judgeLater p ns v))))
 
 -- what a field brings to a reader: "15, given at the field, before 10 and 11" (02, No. 5), then what its number does
-abbrev pub judgeField : List ℕ → ℕ → Bool → ℕ
-judgeField ns v shortest = pick shortest (judge ns v) 15
+abbrev pub judgeField : Profile → List ℕ → ℕ → Bool → ℕ
+judgeField p ns v shortest = pick shortest (judge p ns v) 15
 
 -- the first refusal of the numbers vs that follow ns
-unfoldable pub faultAfter : List ℕ → List ℕ → ℕ
-faultAfter ns [] = 0
-faultAfter ns (v ∷ vs) = pick (eqb (judge ns v) 0) (faultAfter (ns ++ (v ∷ [])) vs) (judge ns v)
+unfoldable pub faultAfter : Profile → List ℕ → List ℕ → ℕ
+faultAfter p ns [] = 0
+faultAfter p ns (v ∷ vs) = pick (eqb (judge p ns v) 0) (faultAfter p (ns ++ (v ∷ [])) vs) (judge p ns v)
 
-abbrev pub firstFault : List ℕ → ℕ
-firstFault vs = faultAfter [] vs
+abbrev pub firstFault : Profile → List ℕ → ℕ
+firstFault p vs = faultAfter p [] vs
 
 -- how many numbers there are with the entry count, as far as the numbers so far tell
-abbrev pub wantedOf : List ℕ → ℕ
-wantedOf ns = fixedNumbers + 2 * min (getD ns atMetrics 0) mostMetrics + 1
+abbrev pub wantedOf : Profile → List ℕ → ℕ
+wantedOf p ns = fixedNumbers + 2 * min (getD ns atMetrics 0) (mostMetrics p) + 1
 
 -- the entry count is the last of the numbers
 abbrev pub countOf : List ℕ → ℕ
@@ -83,8 +81,8 @@ headerOf ns = record {
   lost = getD ns atLost 0;
   average = averageOf (getD ns atAverage 0);
   metrics = getD ns atMetrics 0;
-  kinds = each mostMetrics 0 (λ i. metricAt ns i (atType i));
-  values = each mostMetrics 0 (λ i. metricAt ns i (atValue i));
+  kinds = each metricPlaces 0 (λ i. metricAt ns i (atType i));
+  values = each metricPlaces 0 (λ i. metricAt ns i (atValue i));
   entries = countOf ns;
 }
 
@@ -99,8 +97,8 @@ emptyHeader = record {
   lost = 0;
   average = pos 0;
   metrics = 0;
-  kinds = each mostMetrics 0 (λ i. 0);
-  values = each mostMetrics 0 (λ i. 0);
+  kinds = each metricPlaces 0 (λ i. 0);
+  values = each metricPlaces 0 (λ i. 0);
   entries = 0;
 }
 
@@ -109,8 +107,12 @@ unfoldable pub pairs : ℕ → ℕ → List ℕ → List ℕ → List ℕ
 pairs zero i ks vs = []
 pairs (suc n) i ks vs = getD ks i 0 ∷ getD vs i 0 ∷ pairs n (suc i) ks vs
 
--- the numbers of a header before the entry count; "metrics beyond the count or the limit are not looked at"
-unfoldable pub numbersOf : Header → List ℕ
-numbersOf h =
+-- the numbers of a header before the entry count, with its first n metrics
+abbrev pub withMetrics : Header → ℕ → List ℕ
+withMetrics h n =
     h .timestamp ∷ h .interval ∷ h .total ∷ h .received ∷ h .late ∷ h .lost ∷ storedOf (h .average) ∷ h .metrics
-    ∷ pairs (min (h .metrics) mostMetrics) 0 (h .kinds) (h .values)
+    ∷ pairs n 0 (h .kinds) (h .values)
+
+-- "metrics beyond the count or the limit are not looked at"
+unfoldable pub numbersOf : Profile → Header → List ℕ
+numbersOf p h = withMetrics h (min (h .metrics) (mostMetrics p))

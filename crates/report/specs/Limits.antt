@@ -2,10 +2,10 @@
 use Prim.Native.Nat.{ℕ, _+_, _*_}
 use Rattle.report.specs.Layout.{fixedNumbers}
 
--- "At most 4 metrics"
-abbrev pub mostMetrics : ℕ
-mostMetrics = 4
+-- a header has places for "up to 8 metrics" (02, No. 10), whatever its profile
+abbrev pub metricPlaces : ℕ
+metricPlaces = 8
 
 -- the numbers that every header has, a type and a value for each metric, and the entry count
 abbrev pub mostNumbers : ℕ
-mostNumbers = fixedNumbers + 2 * mostMetrics + 1
+mostNumbers = fixedNumbers + 2 * metricPlaces + 1

@@ -1,13 +1,13 @@
 // Between a header and its list of numbers, and how the signed average is stored.
 ghost use mathlib.Core.Path.{_≡_};
-ghost use Prim.Native.Nat.{_+_, _*_, _≤_, _<_, min};
-ghost use lib.ListN.{take};
+ghost use mathlib.Core.List.{[], _∷_, _++_};
+ghost use Prim.Native.Nat.{_+_, _*_, _≤_, _<_};
 ghost use Rattle.report.specs.Layout.{fixedNumbers};
-ghost use Rattle.report.specs.Limits.{mostMetrics};
+ghost use Rattle.report.specs.Limits.{metricPlaces};
 ghost use Rattle.report.specs.Average.{storedOf, averageOf};
-ghost use Rattle.report.specs.Header.{metricAt, headerOf, numbersOf, emptyHeader};
+ghost use Rattle.report.specs.Header.{each, metricAt, headerOf, withMetrics, emptyHeader};
 use crate::Header;
-use crate::MOST_METRICS;
+use crate::METRIC_PLACES;
 use crate::MOST_NUMBERS;
 use crate::judging::last_of;
 use crate::judging::number_at;
@@ -45,7 +45,7 @@ fn average(v: u64) -> i64
 
 // The type or the value of metric i; 0 from the metric count on.
 fn metric_at(numbers: &[u64], i: usize, part: usize) -> u64
-    requires { ⌜ (i < mostMetrics) × (part ≤ 1) ⌝ }
+    requires { ⌜ (i < metricPlaces) × (part ≤ 1) ⌝ }
     ensures { λ r. ⌜ r ≡ metricAt (now (numbers .entry)) i (fixedNumbers + 2 * i + part) ⌝ }
 {
     if (i as u64) < number_at(numbers, AT_METRICS) {
@@ -55,22 +55,29 @@ fn metric_at(numbers: &[u64], i: usize, part: usize) -> u64
     }
 }
 
+// The types or the values of all metrics.
+fn metrics_of(numbers: &[u64], part: usize) -> [u64; METRIC_PLACES]
+    requires { ⌜ part ≤ 1 ⌝ }
+    ensures { λ r. ⌜ r ≡ each metricPlaces 0 (λ i. metricAt (now (numbers .entry)) i (fixedNumbers + 2 * i + part)) ⌝ }
+{
+    [
+        metric_at(numbers, 0, part),
+        metric_at(numbers, 1, part),
+        metric_at(numbers, 2, part),
+        metric_at(numbers, 3, part),
+        metric_at(numbers, 4, part),
+        metric_at(numbers, 5, part),
+        metric_at(numbers, 6, part),
+        metric_at(numbers, 7, part),
+    ]
+}
+
 // The header that the numbers are.
 pub(crate) fn header_of(numbers: &[u64]) -> Header
     ensures { λ r. ⌜ r ≡ headerOf (now (numbers .entry)) ⌝ }
 {
-    let kinds = [
-        metric_at(numbers, 0, TYPE),
-        metric_at(numbers, 1, TYPE),
-        metric_at(numbers, 2, TYPE),
-        metric_at(numbers, 3, TYPE),
-    ];
-    let values = [
-        metric_at(numbers, 0, VALUE),
-        metric_at(numbers, 1, VALUE),
-        metric_at(numbers, 2, VALUE),
-        metric_at(numbers, 3, VALUE),
-    ];
+    let kinds = metrics_of(numbers, TYPE);
+    let values = metrics_of(numbers, VALUE);
     let mean = average(number_at(numbers, AT_AVERAGE));
     Header {
         timestamp: number_at(numbers, AT_TIMESTAMP),
@@ -91,7 +98,7 @@ pub(crate) fn header_of(numbers: &[u64]) -> Header
 pub(crate) fn empty_header() -> Header
     ensures { λ r. ⌜ r ≡ emptyHeader ⌝ }
 {
-    let none = [0u64; MOST_METRICS];
+    let none = [0u64; METRIC_PLACES];
     Header {
         timestamp: 0,
         interval: 0,
@@ -107,9 +114,9 @@ pub(crate) fn empty_header() -> Header
     }
 }
 
-// The header's numbers in their order, up to the entry count, whose place is the last one looked at.
+// The header's numbers in their order, with all metrics that it has places for, and a place for the entry count.
 pub(crate) fn numbers_of(header: Header) -> [u64; MOST_NUMBERS]
-    ensures { λ r. ⌜ take (fixedNumbers + 2 * min (header .metrics) mostMetrics) r ≡ numbersOf header ⌝ }
+    ensures { λ r. ⌜ r ≡ withMetrics header metricPlaces ++ (0 ∷ []) ⌝ }
 {
     let kinds = header.kinds;
     let values = header.values;
@@ -131,6 +138,14 @@ pub(crate) fn numbers_of(header: Header) -> [u64; MOST_NUMBERS]
         values[2],
         kinds[3],
         values[3],
+        kinds[4],
+        values[4],
+        kinds[5],
+        values[5],
+        kinds[6],
+        values[6],
+        kinds[7],
+        values[7],
         0,
     ]
 }

@@ -4,9 +4,10 @@ ghost use Prim.Native.Nat.{_+_, _≤_, min};
 ghost use lib.Dec.{eqb};
 ghost use lib.ListN.{length, getD};
 ghost use Rattle.report.specs.Layout.{fixedNumbers};
-ghost use Rattle.report.specs.Limits.{mostMetrics};
-ghost use Rattle.report.specs.Header.{knownType, judge, judgeField, judgeLater, firstFault, wantedOf, countOf};
-use crate::MOST_METRICS;
+ghost use Rattle.report.specs.Limits.{metricPlaces};
+ghost use Rattle.entries.specs.Profiles.{mostMetrics, typeAllowed};
+ghost use Rattle.entries.specs.declared.Profile.the-variants.{One};
+ghost use Rattle.report.specs.Header.{judge, judgeField, judgeLater, firstFault, wantedOf, countOf};
 use crate::layout::AT_LATE;
 use crate::layout::AT_LOST;
 use crate::layout::AT_METRICS;
@@ -14,10 +15,31 @@ use crate::layout::AT_RECEIVED;
 use crate::layout::AT_TOTAL;
 use crate::layout::FIXED;
 use entries::MOST_ENTRIES;
+use entries::Profile;
+
+// At most so many metrics in a report of the profile.
+fn most_metrics(profile: Profile) -> usize
+    ensures { λ r. ⌜ (r ≡ mostMetrics profile) × (r ≤ metricPlaces) ⌝ }
+{
+    match profile {
+        Profile::One => 4,
+        Profile::Two => 8,
+    }
+}
+
+// Whether a report of the profile may have a metric of the type: in profile 2 every even one.
+fn type_allowed(profile: Profile, kind: u64) -> bool
+    ensures { λ r. ⌜ r ≡ typeAllowed profile kind ⌝ }
+{
+    match profile {
+        Profile::One => known_type(kind),
+        Profile::Two => kind % 2 == 0,
+    }
+}
 
 // "types .. from 0x02, 0x04, 0x10, 0x12"
 fn known_type(kind: u64) -> bool
-    ensures { λ r. ⌜ r ≡ knownType kind ⌝ }
+    ensures { λ r. ⌜ r ≡ typeAllowed One kind ⌝ }
 {
     match kind {
         0x02 | 0x04 | 0x10 | 0x12 => true,
@@ -40,18 +62,18 @@ fn adds_up(total: u64, received: u64, late: u64, lost: u64) -> bool
 }
 
 // What a field brings, 0 for no refusal: 15 for a longer form, then what its number does. It is one step of the reader.
-pub(crate) fn judge_field(numbers: &[u64], v: u64, shortest: bool) -> u64
-    ensures { λ r. ⌜ r ≡ judgeField (now (numbers .entry)) v shortest ⌝ }
+pub(crate) fn judge_field(profile: Profile, numbers: &[u64], v: u64, shortest: bool) -> u64
+    ensures { λ r. ⌜ r ≡ judgeField profile (now (numbers .entry)) v shortest ⌝ }
 {
     if !shortest {
         return 15;
     }
-    judge_next(numbers, v)
+    judge_next(profile, numbers, v)
 }
 
 // The refusal that v brings where it comes after the numbers so far, 0 for none: one step of the writer, and the reader's for a shortest form.
-fn judge_next(numbers: &[u64], v: u64) -> u64
-    ensures { λ r. ⌜ r ≡ judge (now (numbers .entry)) v ⌝ }
+fn judge_next(profile: Profile, numbers: &[u64], v: u64) -> u64
+    ensures { λ r. ⌜ r ≡ judge profile (now (numbers .entry)) v ⌝ }
 {
     let n = numbers.len();
     if n == AT_LOST {
@@ -61,7 +83,7 @@ fn judge_next(numbers: &[u64], v: u64) -> u64
         return 11;
     }
     if n == AT_METRICS {
-        if v <= MOST_METRICS as u64 {
+        if v <= most_metrics(profile) as u64 {
             return 0;
         }
         return 10;
@@ -72,13 +94,13 @@ fn judge_next(numbers: &[u64], v: u64) -> u64
     if n % 2 == 1 {
         return 0;
     }
-    judge_later(numbers, v)
+    judge_later(profile, numbers, v)
 }
 
 // The same from the ninth number on, where a type or the entry count comes.
-fn judge_later(numbers: &[u64], v: u64) -> u64
+fn judge_later(profile: Profile, numbers: &[u64], v: u64) -> u64
     requires { ⌜ fixedNumbers ≤ length (now numbers) ⌝ }
-    ensures { λ r. ⌜ r ≡ judgeLater (now (numbers .entry)) v ⌝ }
+    ensures { λ r. ⌜ r ≡ judgeLater profile (now (numbers .entry)) v ⌝ }
 {
     let n = numbers.len();
     let metric = ((n - FIXED) / 2) as u64;
@@ -89,7 +111,7 @@ fn judge_later(numbers: &[u64], v: u64) -> u64
         }
         return 10;
     }
-    if !known_type(v) {
+    if !type_allowed(profile, v) {
         return 10;
     }
     if n == FIXED {
@@ -99,13 +121,14 @@ fn judge_later(numbers: &[u64], v: u64) -> u64
 }
 
 // How many metrics are looked at: those of the count, up to the limit.
-pub(crate) fn looked_at(metrics: u64) -> usize
-    ensures { λ r. ⌜ r ≡ min metrics mostMetrics ⌝ }
+pub(crate) fn looked_at(profile: Profile, metrics: u64) -> usize
+    ensures { λ r. ⌜ (r ≡ min metrics (mostMetrics profile)) × (r ≤ metricPlaces) ⌝ }
 {
-    if metrics <= MOST_METRICS as u64 {
+    let most = most_metrics(profile);
+    if metrics <= most as u64 {
         metrics as usize
     } else {
-        MOST_METRICS
+        most
     }
 }
 
@@ -117,11 +140,11 @@ pub(crate) fn number_at(numbers: &[u64], i: usize) -> u64
 }
 
 // How many numbers the header has, as far as the numbers so far tell.
-pub(crate) fn wanted(numbers: &[u64]) -> usize
-    ensures { λ r. ⌜ r ≡ wantedOf (now (numbers .entry)) ⌝ }
+pub(crate) fn wanted(profile: Profile, numbers: &[u64]) -> usize
+    ensures { λ r. ⌜ r ≡ wantedOf profile (now (numbers .entry)) ⌝ }
 {
     let metrics = number_at(numbers, AT_METRICS);
-    FIXED + 2 * looked_at(metrics) + 1
+    FIXED + 2 * looked_at(profile, metrics) + 1
 }
 
 // The entry count, the last of the numbers.
@@ -136,12 +159,12 @@ pub(crate) fn last_of(numbers: &[u64]) -> u64
 }
 
 // The first refusal that the numbers bring, each judged after those before it; 0 for none.
-pub(crate) fn first_fault(numbers: &[u64]) -> u64
-    ensures { λ r. ⌜ r ≡ firstFault (now (numbers .entry)) ⌝ }
+pub(crate) fn first_fault(profile: Profile, numbers: &[u64]) -> u64
+    ensures { λ r. ⌜ r ≡ firstFault profile (now (numbers .entry)) ⌝ }
 {
     let mut i: usize = 0;
     while i < numbers.len() {
-        let refusal = judge_next(&numbers[..i], numbers[i]);
+        let refusal = judge_next(profile, &numbers[..i], numbers[i]);
         if refusal != 0 {
             return refusal;
         }

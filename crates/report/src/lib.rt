@@ -1,5 +1,5 @@
-// The feedback report: a header of wire numbers, then entries, records of 16 bytes each.
-// Carries "The feedback report" of document 01: the whole reader, its companion for the entries, one entry, the writer.
+// The feedback report: a header of wire numbers, then entries, records of 16 bytes each in profile 1 and of 24 in profile 2.
+// Carries "The feedback report" of document 01 and the profiles of No. 10: the whole reader, its companion for the entries, one entry, the writer.
 // Every public function takes any bytes and any header, and refuses by the paper's table.
 ghost use mathlib.Core.Path.{_≡_};
 ghost use Rattle.report.specs.Refusals.{writtenRefusal};
@@ -7,21 +7,23 @@ ghost use Rattle.report.specs.Refusals.{writtenRefusal};
 mod headers;
 mod judging;
 mod layout;
+mod profiles;
 mod reader;
 mod writer;
 
 pub use entries::Entry;
+use entries::Profile;
 pub use entries::Status;
 pub use entries::read_entry;
 pub use reader::entries_of;
 pub use reader::read_report;
 pub use writer::write_report;
 
-// At most so many metrics in a header.
-const MOST_METRICS: usize = 4;
+// A header has places for so many metrics, whatever its profile.
+const METRIC_PLACES: usize = 8;
 
 // The numbers that every header has, a type and a value for each metric, and the entry count.
-const MOST_NUMBERS: usize = layout::FIXED + 2 * MOST_METRICS + 1;
+const MOST_NUMBERS: usize = layout::FIXED + 2 * METRIC_PLACES + 1;
 
 // The summary of a report, and what comes with it. On a refusal all numbers are 0.
 #[repr(C)]
@@ -43,9 +45,9 @@ pub struct Header {
     // how many metrics follow
     pub metrics: u64,
     // the type of each metric, 0 from the count on
-    pub kinds: [u64; MOST_METRICS],
+    pub kinds: [u64; METRIC_PLACES],
     // the value of each metric, 0 from the count on
-    pub values: [u64; MOST_METRICS],
+    pub values: [u64; METRIC_PLACES],
     // how many entries follow; the writer takes no heed of it
     pub entries: u64,
 }
@@ -61,6 +63,12 @@ pub struct Report {
 pub enum Written {
     Done { next: usize, kept: usize },
     Refused(u64),
+}
+
+// What the number that the caller passed stands for.
+enum Asked {
+    For(Profile),
+    NoProfile,
 }
 
 // The numbers of a report as far as they were read: 0 or a refusal, the place after them, how many they are, and the numbers themselves.

@@ -3,7 +3,8 @@ ghost use mathlib.Core.Path.{_≡_};
 ghost use Prim.Native.Nat.{_≤_};
 ghost use lib.ListN.{length};
 ghost use Rattle.report.specs.Limits.{mostNumbers};
-ghost use Rattle.report.specs.Reader.{readingOf, readNumbers, reportReading, readReport, entriesOf};
+ghost use Rattle.report.specs.Reader.{readingOf, readNumbers, reportReading, readReport, entriesOf, readBy, entriesBy};
+use crate::Asked;
 use crate::MOST_NUMBERS;
 use crate::NumbersRead;
 use crate::Report;
@@ -12,19 +13,22 @@ use crate::headers::header_of;
 use crate::judging::judge_field;
 use crate::judging::last_of;
 use crate::judging::wanted;
-use entries::RECORD;
+use crate::profiles::asked_for;
+use entries::Profile;
 use entries::entries_good;
+use entries::record_size;
+use entries::records_in;
 use wire::Number;
 
 // Reads the header's numbers one by one; each is judged as soon as it is read.
-fn read_numbers(s: &[u8]) -> NumbersRead
-    ensures { λ r. ⌜ (readingOf r ≡ readNumbers (now (s .entry))) × ((r .next ≤ length (now (s .entry))) × (r .count ≤ mostNumbers)) ⌝ }
+fn read_numbers(profile: Profile, s: &[u8]) -> NumbersRead
+    ensures { λ r. ⌜ (readingOf r ≡ readNumbers profile (now (s .entry))) × ((r .next ≤ length (now (s .entry))) × (r .count ≤ mostNumbers)) ⌝ }
 {
     let mut numbers = [0u64; MOST_NUMBERS];
     let mut at: usize = 0;
     let mut count: usize = 0;
     while count < MOST_NUMBERS {
-        let whole = wanted(&numbers[..count]);
+        let whole = wanted(profile, &numbers[..count]);
         if whole <= count {
             return NumbersRead {
                 refusal: 0,
@@ -41,7 +45,7 @@ fn read_numbers(s: &[u8]) -> NumbersRead
         else {
             return stopped(2);
         };
-        let refusal = judge_field(&numbers[..count], value, shortest);
+        let refusal = judge_field(profile, &numbers[..count], value, shortest);
         if refusal != 0 {
             return stopped(refusal);
         }
@@ -71,10 +75,10 @@ fn stopped(refusal: u64) -> NumbersRead
 }
 
 // Judges a whole report: its numbers, then whether its entries are there (2), good (12) and its end (13).
-fn judge_report(s: &[u8]) -> NumbersRead
-    ensures { λ r. ⌜ (readingOf r ≡ reportReading (now (s .entry))) × ((r .next ≤ length (now (s .entry))) × (r .count ≤ mostNumbers)) ⌝ }
+fn judge_report(profile: Profile, s: &[u8]) -> NumbersRead
+    ensures { λ r. ⌜ (readingOf r ≡ reportReading profile (now (s .entry))) × ((r .next ≤ length (now (s .entry))) × (r .count ≤ mostNumbers)) ⌝ }
 {
-    let found = read_numbers(s);
+    let found = read_numbers(profile, s);
     if found.refusal != 0 {
         return found;
     }
@@ -83,11 +87,11 @@ fn judge_report(s: &[u8]) -> NumbersRead
     let numbers = found.numbers;
     let entries = last_of(&numbers[..count]) as usize;
     let rest = s.len() - at;
-    if rest / RECORD < entries {
+    if records_in(profile, rest) < entries {
         return stopped(2);
     }
-    let end = at + RECORD * entries;
-    if !entries_good(&s[at..end]) {
+    let end = at + record_size(profile) * entries;
+    if !entries_good(profile, &s[at..end]) {
         return stopped(12);
     }
     if end < s.len() {
@@ -96,11 +100,11 @@ fn judge_report(s: &[u8]) -> NumbersRead
     found
 }
 
-// Reads a whole report: 0 and its header, or the first fault and the empty header.
-pub fn read_report(s: &[u8]) -> Report
-    ensures { λ r. ⌜ r ≡ readReport (now (s .entry)) ⌝ }
+// Reads a whole report of a profile: 0 and its header, or the first fault and the empty header.
+fn read_as(profile: Profile, s: &[u8]) -> Report
+    ensures { λ r. ⌜ r ≡ readReport profile (now (s .entry)) ⌝ }
 {
-    let found = judge_report(s);
+    let found = judge_report(profile, s);
     let refusal = found.refusal;
     if refusal != 0 {
         let header = empty_header();
@@ -112,14 +116,38 @@ pub fn read_report(s: &[u8]) -> Report
     Report { refusal, header }
 }
 
-// The entries of a report, a part of the caller's own bytes; empty on a refusal.
-pub fn entries_of(s: &[u8]) -> &[u8]
-    ensures { λ r. ⌜ now r ≡ entriesOf (now (s .entry)) ⌝ }
+// Reads a whole report of the profile asked for: 0 and its header, or the first fault, 18 before all others, and the empty header.
+pub fn read_report(profile: u64, s: &[u8]) -> Report
+    ensures { λ r. ⌜ r ≡ readBy profile (now (s .entry)) ⌝ }
 {
-    let found = judge_report(s);
+    let Asked::For(known) = asked_for(profile) else {
+        let header = empty_header();
+        return Report {
+            refusal: 18,
+            header,
+        };
+    };
+    read_as(known, s)
+}
+
+// The entries of a report of a profile, a part of the caller's own bytes; empty on a refusal.
+fn part_as(profile: Profile, s: &[u8]) -> &[u8]
+    ensures { λ r. ⌜ now r ≡ entriesOf profile (now (s .entry)) ⌝ }
+{
+    let found = judge_report(profile, s);
     if found.refusal != 0 {
         return &s[0..0];
     }
     let at = found.next;
     &s[at..]
+}
+
+// The entries of a report of the profile asked for, a part of the caller's own bytes; empty on a refusal.
+pub fn entries_of(profile: u64, s: &[u8]) -> &[u8]
+    ensures { λ r. ⌜ now r ≡ entriesBy profile (now (s .entry)) ⌝ }
+{
+    let Asked::For(known) = asked_for(profile) else {
+        return &s[0..0];
+    };
+    part_as(known, s)
 }

@@ -6,42 +6,47 @@ ghost use Prim.Native.Nat.{_+_, _≤_};
 ghost use lib.ListN.{length};
 ghost use Rattle.wire.specs.Bytes.{splice};
 ghost use Rattle.wire.specs.Numbers.{encodeAll, allSmall};
-ghost use Rattle.report.specs.Writer.{planned, writeAnswer, writeBytes};
+ghost use Rattle.report.specs.Writer.{planned, writeAnswer, writeBytes, answerBy, bytesBy};
+use crate::Asked;
 use crate::Header;
 use crate::Written;
 use crate::headers::numbers_of;
 use crate::judging::first_fault;
 use crate::judging::looked_at;
 use crate::layout::FIXED;
+use crate::profiles::asked_for;
 use entries::MOST_ENTRIES;
-use entries::RECORD;
+use entries::Profile;
 use entries::entries_fault;
 use entries::fitting;
+use entries::record_size;
+use entries::records_in;
 
 // What the writer answers: it judges in the paper's order, then fits the records to the room.
-fn plan(numbers: &[u64], entries: &[u8], maximum: u64, room: usize) -> Written
-    ensures { λ r. ⌜ r ≡ planned (now (numbers .entry)) (now (entries .entry)) maximum room ⌝ }
+fn plan(profile: Profile, numbers: &[u64], entries: &[u8], maximum: u64, room: usize) -> Written
+    ensures { λ r. ⌜ r ≡ planned profile (now (numbers .entry)) (now (entries .entry)) maximum room ⌝ }
 {
     let wire::Length::Bytes(head) = wire::length_of(numbers) else {
         return Written::Refused(5);
     };
-    let fault = first_fault(numbers);
+    let fault = first_fault(profile, numbers);
     if fault != 0 {
         return Written::Refused(fault);
     }
     if (MOST_ENTRIES as u64) < maximum {
         return Written::Refused(10);
     }
-    let broken = entries_fault(entries);
+    let broken = entries_fault(profile, entries);
     if broken != 0 {
         return Written::Refused(broken);
     }
     if room <= head {
         return Written::Refused(9);
     }
-    let kept = fitting(entries.len() / RECORD, maximum as usize, room - head);
+    let given = records_in(profile, entries.len());
+    let kept = fitting(profile, given, maximum as usize, room - head);
     Written::Done {
-        next: head + wire::width(kept as u64) + RECORD * kept,
+        next: head + wire::width(kept as u64) + record_size(profile) * kept,
         kept,
     }
 }
@@ -68,23 +73,45 @@ fn store(buf: &mut [u8], at: usize, numbers: &[u64], records: &[u8])
     copy(&mut buf[at..end], records);
 }
 
-// Writes a report of the header and the last of the records that fit, at most the maximum; nothing on a refusal.
-pub fn write_report(buf: &mut [u8], header: Header, entries: &[u8], maximum: u64) -> Written
-    ensures { λ r. ⌜ (r ≡ writeAnswer header (now (entries .entry)) maximum (length (now (buf .entry)))) × (now (buf .exit) ≡ writeBytes header (now (entries .entry)) maximum (now (buf .entry))) ⌝ }
+// Writes a report of a profile: the header and the last of the records that fit, at most the maximum; nothing on a refusal.
+fn write_as(
+    profile: Profile,
+    buf: &mut [u8],
+    header: Header,
+    entries: &[u8],
+    maximum: u64,
+) -> Written
+    ensures { λ r. ⌜ (r ≡ writeAnswer profile header (now (entries .entry)) maximum (length (now (buf .entry)))) × (now (buf .exit) ≡ writeBytes profile header (now (entries .entry)) maximum (now (buf .entry))) ⌝ }
 {
     let metrics = header.metrics;
-    let count = FIXED + 2 * looked_at(metrics);
+    let count = FIXED + 2 * looked_at(profile, metrics);
     let mut numbers = numbers_of(header);
-    let answer = plan(&numbers[..count], entries, maximum, buf.len());
+    let answer = plan(profile, &numbers[..count], entries, maximum, buf.len());
     let Written::Done { next, kept } = answer else {
         return answer;
     };
     numbers[count] = kept as u64;
     let whole = count + 1;
-    let bytes = RECORD * kept;
+    let bytes = record_size(profile) * kept;
     let at = next - bytes;
     let start = entries.len() - bytes;
     let end = start + bytes;
     store(buf, at, &numbers[..whole], &entries[start..end]);
     answer
+}
+
+// Writes a report of the profile asked for, or gives 18 before all other refusals.
+pub fn write_report(
+    profile: u64,
+    buf: &mut [u8],
+    header: Header,
+    entries: &[u8],
+    maximum: u64,
+) -> Written
+    ensures { λ r. ⌜ (r ≡ answerBy profile header (now (entries .entry)) maximum (length (now (buf .entry)))) × (now (buf .exit) ≡ bytesBy profile header (now (entries .entry)) maximum (now (buf .entry))) ⌝ }
+{
+    let Asked::For(known) = asked_for(profile) else {
+        return Written::Refused(18);
+    };
+    write_as(known, buf, header, entries, maximum)
 }

@@ -11,6 +11,7 @@ use lib.ListN.{length, take, drop, length-drop}
 use lib.Seq.{take-all, drop-length}
 use Rattle.wire.specs.Bytes.{pick}
 use Rattle.entries.specs.Entries.{entriesGood}
+use Rattle.entries.specs.declared.Profile.the-variants.{One}
 use Rattle.report.specs.declared.Header.{Header}
 use Rattle.report.specs.declared.Report.{Report}
 use Rattle.report.specs.Header.{countOf, headerOf, emptyHeader}
@@ -21,7 +22,7 @@ use Rattle.totals.specs.Adding.{refusedBrings, acceptedBrings, brings}
 module _ (s : List ℕ) where
   -- so many bytes are the entries, the last of s
   abbrev Tail : Reading → Type 0
-  Tail x = (16 * reportOf x .header .entries ≤ length s) × (drop (length s - 16 * reportOf x .header .entries) s ≡ entriesIn s x)
+  Tail x = (16 * reportOf x .header .entries ≤ length s) × (drop (length s - 16 * reportOf x .header .entries) s ≡ entriesIn One s x)
 
   stopped-tail : (n : ℕ) → Tail (Stopped n)
   unfolding reportOf entriesIn emptyHeader
@@ -34,7 +35,7 @@ module _ (s : List ℕ) where
       let l : length (drop at s) ≤ 16 * countOf ns = simp length-drop (omega arith) in
       (omega arith, rw (e, take-all (16 * countOf ns) (drop at s) l))
 
-  judged-tail : (x : Reading) → Tail (judgeEntries s x)
+  judged-tail : (x : Reading) → Tail (judgeEntries One s x)
   unfolding judgeEntries
   judged-tail (Stopped n) = stopped-tail n
   judged-tail (Whole ns at) = by-room (leb (at + 16 * countOf ns) (length s))
@@ -47,21 +48,21 @@ module _ (s : List ℕ) where
       by-good true = by-end (eqb (at + 16 * countOf ns) (length s)) refl
       by-good false = stopped-tail 12
 
-      by-room : (b : Bool) → Tail (pick b (pick (entriesGood (partOf s ns at)) (pick (eqb (at + 16 * countOf ns) (length s)) (Whole ns at) (Stopped 13)) (Stopped 12)) (Stopped 2))
-      by-room true = by-good (entriesGood (partOf s ns at))
+      by-room : (b : Bool) → Tail (pick b (pick (entriesGood One (partOf One s ns at)) (pick (eqb (at + 16 * countOf ns) (length s)) (Whole ns at) (Stopped 13)) (Stopped 12)) (Stopped 2))
+      by-room true = by-good (entriesGood One (partOf One s ns at))
       by-room false = stopped-tail 2
 
-  entries-tail : Tail (reportReading s)
+  entries-tail : Tail (reportReading One s)
   unfolding reportReading
-  entries-tail = judged-tail (readNumbers s)
+  entries-tail = judged-tail (readNumbers One s)
 
   -- r is what the reader answered
-  module _ {r : Report} (e : r ≡ readReport s) where
+  module _ {r : Report} (e : r ≡ readReport One s) where
     pub entries-fit : 16 * r .header .entries ≤ length s
     entries-fit = rw e (entries-tail .0)
 
     -- the code lends what stands from the start of the entries on
-    pub entries-last : take (length s - (length s - 16 * r .header .entries)) (drop (length s - 16 * r .header .entries) s) ≡ entriesOf s
+    pub entries-last : take (length s - (length s - 16 * r .header .entries)) (drop (length s - 16 * r .header .entries) s) ≡ entriesOf One s
     entries-last =
         let k : length (drop (length s - 16 * r .header .entries) s) ≤ length s - (length s - 16 * r .header .entries) = simp length-drop (omega arith) in
         take-all (length s - (length s - 16 * r .header .entries)) (drop (length s - 16 * r .header .entries) s) k ∙ rw e (entries-tail .1)
@@ -71,13 +72,13 @@ module _ (s : List ℕ) where
       unfolding brings
       brings-refused h = rw (le-leb (length s) longest l, ← e, ne-eqb (r .refusal) 0 h)
 
-      pub brings-accepted : r .refusal ≡ 0 → acceptedBrings (r .header) (entriesOf s) ≡ brings s
+      pub brings-accepted : r .refusal ≡ 0 → acceptedBrings (r .header) (entriesOf One s) ≡ brings s
       unfolding brings
       brings-accepted h = rw (le-leb (length s) longest l, ← e, eq-eqb (r .refusal) 0 h)
 
   -- the four counts as the code found them
-  pub accepted-is : (h : Header) {a b c d : ℕ} → a ≡ statusCount 0 (entriesOf s) → b ≡ statusCount 1 (entriesOf s) → c ≡ statusCount 2 (entriesOf s) → d ≡ statusCount 3 (entriesOf s)
-      → record { number = 0; total = h .total; received = h .received; late = h .late; lost = h .lost; statuses = a ∷ b ∷ c ∷ d ∷ [] } ≡ acceptedBrings h (entriesOf s)
+  pub accepted-is : (h : Header) {a b c d : ℕ} → a ≡ statusCount 0 (entriesOf One s) → b ≡ statusCount 1 (entriesOf One s) → c ≡ statusCount 2 (entriesOf One s) → d ≡ statusCount 3 (entriesOf One s)
+      → record { number = 0; total = h .total; received = h .received; late = h .late; lost = h .lost; statuses = a ∷ b ∷ c ∷ d ∷ [] } ≡ acceptedBrings h (entriesOf One s)
   unfolding acceptedBrings
   accepted-is h e f g k = rw (e, f, g, k)
 

@@ -13,6 +13,7 @@ use lib.Dec.{leb}
 use lib.ListN.{length}
 use Rattle.wire.specs.Bytes.{pick}
 use Rattle.wire.specs.Exactly.{OneOf}
+use Rattle.entries.specs.declared.Profile.the-variants.{One}
 use Rattle.report.specs.Reader.{readReport}
 use Rattle.report.proofs.Exactly.{report-reads}
 use Rattle.totals.specs.Totals.{longest, tooLong, numberOf}
@@ -39,6 +40,6 @@ given = 0 ∷ 2 ∷ 10 ∷ 11 ∷ 12 ∷ 13 ∷ 15 ∷ []
 pub numbers-have-places : NumbersHavePlaces
 numbers-have-places r =
     elim (decLe (length r) longest) [
-      | yes h ↦ rw (number-read r h) (one-low (readReport r .refusal) given (report-reads r .others) refl)
+      | yes h ↦ rw (number-read r h) (one-low (readReport One r .refusal) given (report-reads One r .others) refl)
       | no h ↦ rw (number-long r (lt-of-not-le h)) (le-refl tooLong)
     ]

@@ -12,6 +12,7 @@ use borrow.Author.Tests.{le-leb, lt-leb, eq-eqb, ne-eqb, eqb-true, eqb-false}
 use lib.Dec.{eqb, leb}
 use lib.ListN.{length, getD}
 use Rattle.wire.specs.Bytes.{pick}
+use Rattle.entries.specs.declared.Profile.the-variants.{One}
 use Rattle.report.specs.declared.Header.{Header}
 use Rattle.report.specs.Reader.{readReport, entriesOf}
 use Rattle.totals.specs.declared.Totals.{Totals}
@@ -61,9 +62,9 @@ module _ (place : ℕ) where
       zeros true e = refl
       zeros false e = e
 
-  share-accepted : (r : List ℕ) → tooLong < place → place < places → share (acceptedBrings (readReport r .header) (entriesOf r)) place ≡ partIn place r
+  share-accepted : (r : List ℕ) → tooLong < place → place < places → share (acceptedBrings (readReport One r .header) (entriesOf One r)) place ≡ partIn place r
   unfolding share acceptedBrings partIn
-  share-accepted r h l = rw (lt-leb place tooLong h, four (λ k. statusCount k (entriesOf r)) (place - 25) (omega arith))
+  share-accepted r h l = rw (lt-leb place tooLong h, four (λ k. statusCount k (entriesOf One r)) (place - 25) (omega arith))
 
   share-number : (b : Brought) → place ≤ tooLong → share b place ≡ one place (b .number)
   unfolding share
@@ -74,7 +75,7 @@ module _ (r : List ℕ) where
   unfolding numberOf
   number-long h = rw (lt-leb (length r) longest h)
 
-  pub number-read : length r ≤ longest → numberOf r ≡ readReport r .refusal
+  pub number-read : length r ≤ longest → numberOf r ≡ readReport One r .refusal
   unfolding numberOf
   number-read h = rw (le-leb (length r) longest h)
 
@@ -82,11 +83,11 @@ module _ (r : List ℕ) where
   unfolding brings
   brings-long h = rw (lt-leb (length r) longest h)
 
-  brings-refused : length r ≤ longest → eqb (readReport r .refusal) 0 ≡ false → brings r ≡ refusedBrings (readReport r .refusal)
+  brings-refused : length r ≤ longest → eqb (readReport One r .refusal) 0 ≡ false → brings r ≡ refusedBrings (readReport One r .refusal)
   unfolding brings
   brings-refused h e = rw (le-leb (length r) longest h, e)
 
-  brings-accepted : length r ≤ longest → eqb (readReport r .refusal) 0 ≡ true → brings r ≡ acceptedBrings (readReport r .header) (entriesOf r)
+  brings-accepted : length r ≤ longest → eqb (readReport One r .refusal) 0 ≡ true → brings r ≡ acceptedBrings (readReport One r .header) (entriesOf One r)
   unfolding brings
   brings-accepted h e = rw (le-leb (length r) longest h, e)
 
@@ -101,16 +102,16 @@ module _ (r : List ℕ) where
   -- either it is refused and brings its number alone, or it is accepted
   pub data Read : Type 0 where
     refused : eqb (numberOf r) 0 ≡ false → brings r ≡ refusedBrings (numberOf r) → Read
-    taken : numberOf r ≡ 0 → brings r ≡ acceptedBrings (readReport r .header) (entriesOf r) → Read
+    taken : numberOf r ≡ 0 → brings r ≡ acceptedBrings (readReport One r .header) (entriesOf One r) → Read
 
   reads : Read
-  reads = elim (decLe (length r) longest) [ yes h ↦ go h (eqb (readReport r .refusal) 0) refl | no h ↦ long (lt-of-not-le h) ]
+  reads = elim (decLe (length r) longest) [ yes h ↦ go h (eqb (readReport One r .refusal) 0) refl | no h ↦ long (lt-of-not-le h) ]
     where
       long : longest < length r → Read
       long h = refused (rw (number-long h)) (brings-long h ∙ ap refusedBrings (sym (number-long h)))
 
-      go : length r ≤ longest → (b : Bool) → eqb (readReport r .refusal) 0 ≡ b → Read
-      go h true e = taken (number-read h ∙ eqb-true (readReport r .refusal) 0 e) (brings-accepted h e)
+      go : length r ≤ longest → (b : Bool) → eqb (readReport One r .refusal) 0 ≡ b → Read
+      go h true e = taken (number-read h ∙ eqb-true (readReport One r .refusal) 0 e) (brings-accepted h e)
       go h false e = refused (rw (number-read h) e) (brings-refused h e ∙ ap refusedBrings (sym (number-read h)))
 
   module _ (place : ℕ) (l : place < places) where

@@ -4,6 +4,7 @@ use mathlib.Core.List.{List, [], _∷_}
 use lib.Dec.{eqb, leb}
 use lib.ListN.{length, getD, replicate}
 use Rattle.wire.specs.Bytes.{pick}
+use Rattle.entries.specs.declared.Profile.the-variants.{One}
 use Rattle.report.specs.declared.Header.{Header}
 use Rattle.report.specs.declared.Report.{Report}
 use Rattle.report.specs.Reader.{readReport, entriesOf}
@@ -31,7 +32,7 @@ abbrev pub readBrings : Report → List ℕ → Brought
 readBrings read s = pick (eqb (read .refusal) 0) (acceptedBrings (read .header) s) (refusedBrings (read .refusal))
 
 unfoldable pub brings : List ℕ → Brought
-brings r = pick (leb (length r) longest) (readBrings (readReport r) (entriesOf r)) (refusedBrings tooLong)
+brings r = pick (leb (length r) longest) (readBrings (readReport One r) (entriesOf One r)) (refusedBrings tooLong)
 
 -- what of it belongs in a place
 unfoldable pub share : Brought → ℕ → ℕ

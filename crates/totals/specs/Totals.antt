@@ -4,8 +4,9 @@ use mathlib.Core.List.{List, [], _∷_, _++_}
 use lib.Dec.{eqb, leb}
 use lib.ListN.{length, drop}
 use Rattle.wire.specs.Bytes.{pick}
-use Rattle.entries.specs.Limits.{recordSize}
+use Rattle.entries.specs.Profiles.{recordSize}
 use Rattle.entries.specs.Entries.{statusOf}
+use Rattle.entries.specs.declared.Profile.the-variants.{One}
 use Rattle.report.specs.Reader.{readReport, entriesOf}
 use Rattle.totals.specs.declared.Totals.{Totals}
 
@@ -21,7 +22,7 @@ tooLong = 20
 
 -- the number that a report is given: the reader's, 0 for accepted, or 20
 unfoldable pub numberOf : List ℕ → ℕ
-numberOf r = pick (leb (length r) longest) (readReport r .refusal) tooLong
+numberOf r = pick (leb (length r) longest) (readReport One r .refusal) tooLong
 
 -- "the list of accepted reports"
 unfoldable pub accepted : List (List ℕ) → List (List ℕ)
@@ -44,11 +45,11 @@ summed f (r ∷ rs) = f r + summed f rs
 -- how many of n records in a row have the status
 unfoldable pub recordsWith : ℕ → ℕ → List ℕ → ℕ
 recordsWith status zero s = 0
-recordsWith status (suc n) s = one status (statusOf s) + recordsWith status n (drop recordSize s)
+recordsWith status (suc n) s = one status (statusOf s) + recordsWith status n (drop (recordSize One) s)
 
 -- "the entry count by status": of the entries of a report
 abbrev pub statusCount : ℕ → List ℕ → ℕ
-statusCount status s = recordsWith status (length s / recordSize) s
+statusCount status s = recordsWith status (length s / recordSize One) s
 
 -- ---- what is counted, each in its place
 
@@ -75,10 +76,10 @@ atEntries = 25
 -- what an accepted report brings to a total
 unfoldable pub partIn : ℕ → List ℕ → ℕ
 partIn place r =
-    pick (eqb place atTotal) (readReport r .header .total)
-    (pick (eqb place atReceived) (readReport r .header .received)
-    (pick (eqb place atLate) (readReport r .header .late)
-    (pick (eqb place atLost) (readReport r .header .lost) (statusCount (place - atEntries) (entriesOf r)))))
+    pick (eqb place atTotal) (readReport One r .header .total)
+    (pick (eqb place atReceived) (readReport One r .header .received)
+    (pick (eqb place atLate) (readReport One r .header .late)
+    (pick (eqb place atLost) (readReport One r .header .lost) (statusCount (place - atEntries) (entriesOf One r)))))
 
 -- "All totals are defined over the list of accepted reports"
 unfoldable pub sumAt : ℕ → List (List ℕ) → ℕ

@@ -59,7 +59,7 @@ impl Brought {
         if LONGEST < report.len() {
             return Brought::refused(TOO_LONG);
         }
-        let read = report::read_report(report);
+        let read = report::read_report(1, report);
         if read.refusal != 0 {
             return Brought::refused(read.refusal);
         }

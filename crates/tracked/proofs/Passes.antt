@@ -15,10 +15,12 @@ use Rattle.wire.specs.Numbers.{limit, encodeAll, allSmall}
 use Rattle.wire.specs.Exactly.{Small}
 use Rattle.wire.proofs.Bytes.{be-digits}
 use Rattle.wire.proofs.Lengths.{split}
-use Rattle.entries.specs.Limits.{recordSize, mostEntries}
-use Rattle.entries.specs.Entries.{entryFrom, entryOf, follows, recordsGood, entriesFault}
+use Rattle.entries.specs.Limits.{mostEntries}
+use Rattle.entries.specs.Profiles.{recordSize}
+use Rattle.entries.specs.Entries.{entryFrom, entryBehind, entryOf, follows, recordsGood, entriesFault}
 use Rattle.entries.specs.Exactly.{RecordsPass}
 use Rattle.entries.proofs.Exactly.{entries-judged}
+use Rattle.entries.specs.declared.Profile.the-variants.{One}
 use Rattle.report.specs.Average.{storedOf}
 use Rattle.report.specs.Header.{numbersOf, pairs, firstFault}
 use Rattle.report.specs.Writer.{reportSize, keptOf, planned, writeAnswer}
@@ -52,7 +54,7 @@ age-back : (age : ℕ) → age ≤ 4294967295 → be 0 (fixed 4 age) ≡ age
 age-back age h = be-digits 4 age [] 0 ∙ omega arith
 
 -- a record that obeys its rule is followed by those above it
-followed : (above object status age : ℕ) (f : ℕ → Bool) → above ≤ object → object ≤ limit → status < noStatus → (status ≡ 2 → age ≡ 0) → follows above (entryFrom object status 0 age) f ≡ f (suc object)
+followed : (above object status age : ℕ) (f : ℕ → ℕ → Bool) → above ≤ object → object ≤ limit → status < noStatus → (status ≡ 2 → age ≡ 0) → follows 0 above (entryFrom 0 object status 0 age) f ≡ f 0 (suc object)
 unfolding entryFrom
 followed above object zero age f a h s z = rw (le-leb object limit h, le-leb above object a)
 followed above object (suc zero) age f a h s z = rw (le-leb object limit h, le-leb above object a)
@@ -67,15 +69,15 @@ age-small status time since = go (eqb status 2)
     go true = omega arith
     go false = min-le-right (time - since) 4294967295
 
-entry-made : (object status age : ℕ) (rest : List ℕ) → object ≤ limit → age ≤ 4294967295 → entryOf (take recordSize (entryBytes object status age ++ rest)) ≡ entryFrom object status 0 age
-unfolding entryOf
+entry-made : (object status age : ℕ) (rest : List ℕ) → object ≤ limit → age ≤ 4294967295 → entryOf One (take (recordSize One) (entryBytes object status age ++ rest)) ≡ entryFrom 0 object status 0 age
+unfolding entryBehind
 entry-made object status age rest h l =
-    ap (λ (o : ℕ). entryFrom o status 0 (be 0 (fixed 4 age))) (object-back object h) ∙ ap (entryFrom object status 0) (age-back age l)
+    ap (λ (o : ℕ). entryFrom 0 o status 0 (be 0 (fixed 4 age))) (object-back object h) ∙ ap (entryFrom 0 object status 0) (age-back age l)
 
 -- ---- records in a row
 
 good : (status : ℕ → ℕ) (r : List ℕ) (time n place above : ℕ) → above ≤ firstOf r + place → firstOf r + place + n ≤ limit + 1
-    → recordsGood (howMany (λ p. ltb (status p) noStatus) n place) above (entriesFrom status r time n place) ≡ true
+    → recordsGood One (howMany (λ p. ltb (status p) noStatus) n place) 0 above (entriesFrom status r time n place) ≡ true
 unfolding recordsGood howMany entriesFrom
 good status r time zero place above a h = refl
 good status r time (suc n) place above a h =
@@ -85,20 +87,20 @@ good status r time (suc n) place above a h =
     let st : ℕ = status place in
     let age : ℕ = ageOf st time (timeOf (wordAt r place)) in
     let one : 1 + m ≡ suc m = omega arith in
-    let f : ℕ → Bool = λ next. recordsGood m next (entriesFrom status r time n (suc place)) in
+    let f : ℕ → ℕ → Bool = λ group next. recordsGood One m group next (entriesFrom status r time n (suc place)) in
     rw (lt-ltb (status place) noStatus (omega arith), one)
-    (ap (λ e. follows above e f) (entry-made (firstOf r + place) st age (entriesFrom status r time n (suc place)) (omega arith) (age-small st time (timeOf (wordAt r place))))
+    (ap (λ e. follows 0 above e f) (entry-made (firstOf r + place) st age (entriesFrom status r time n (suc place)) (omega arith) (age-small st time (timeOf (wordAt r place))))
     ∙ followed above (firstOf r + place) st age f a (omega arith) (omega arith) (λ e. rw (eq-eqb st 2 e))
     ∙ good status r time n (suc place) (suc (firstOf r + place)) (omega arith) (omega arith)))
     (λ k.
     let none : 0 + m ≡ m = omega arith in
     rw (le-ltb (status place) noStatus (omega arith), none) (good status r time n (suc place) above (omega arith) (omega arith)))
 
-records-pass : (r : List ℕ) (time : ℕ) → firstOf r + 255 ≤ limit → RecordsPass (entriesAt r time)
+records-pass : (r : List ℕ) (time : ℕ) → firstOf r + 255 ≤ limit → RecordsPass One (entriesAt r time)
 records-pass r time h =
     let l = entries-length (statusAt r time) r time mostObjects 0 in
     let w = many-within (λ p. ltb (statusAt r time p) noStatus) mostObjects 0 in
-    let d : length (entriesAt r time) / recordSize ≡ totalOf r time = omega (arith, l) in
+    let d : length (entriesAt r time) / recordSize One ≡ totalOf r time = omega (arith, l) in
     record {
       even = omega (arith, l);
       few = omega (arith, l, w);
@@ -107,7 +109,7 @@ records-pass r time h =
 
 -- ---- the header
 
-header-small : (r : List ℕ) (time interval : ℕ) → time ≤ limit → interval ≤ limit → storedOf (averageAt r) ≤ limit → Small (numbersOf (summaryOf r time interval))
+header-small : (r : List ℕ) (time interval : ℕ) → time ≤ limit → interval ≤ limit → storedOf (averageAt r) ≤ limit → Small (numbersOf One (summaryOf r time interval))
 unfolding numbersOf summaryOf pairs
 header-small r time interval h i a =
     let few : (test : ℕ → Bool) → howMany test mostObjects 0 ≤ mostObjects = λ test. many-within test mostObjects 0 in (
@@ -127,7 +129,7 @@ header-small r time interval h i a =
       ),
     )
 
-no-metrics : (r : List ℕ) (time interval : ℕ) → MetricsObey (summaryOf r time interval)
+no-metrics : (r : List ℕ) (time interval : ℕ) → MetricsObey One (summaryOf r time interval)
 unfolding summaryOf
 no-metrics r time interval = record { few = omega arith; known = λ i h. absurd (omega arith); rising = λ i h. absurd (omega arith) }
 
@@ -145,32 +147,32 @@ writer-takes r time interval room maximum e m =
 pub entries-rise : EntriesRise
 entries-rise r time interval room e i h =
     let l = entries-length (statusAt r time) r time mostObjects 0 in
-    entries-judged (entriesAt r time) .0 (writer-takes r time interval room 0 e (omega arith) .records .good) i (omega (arith, l))
+    entries-judged One (entriesAt r time) .0 (writer-takes r time interval room 0 e (omega arith) .records .good) i (omega (arith, l))
 
 -- the writer refuses with a number, never with 0
-refuses-some : (ns entries : List ℕ) (maximum room n : ℕ) → Refused n ≡ planned ns entries maximum room → n ≡ 0 → ⊥
+refuses-some : (ns entries : List ℕ) (maximum room n : ℕ) → Refused n ≡ planned One ns entries maximum room → n ≡ 0 → ⊥
 unfolding planned
 refuses-some ns entries maximum room n e z =
-    go (allSmall ns) (eqb (firstFault ns) 0) (leb maximum mostEntries) (eqb (entriesFault entries) 0) (leb (reportSize (length (encodeAll ns)) 0) room) refl refl e
+    go (allSmall ns) (eqb (firstFault One ns) 0) (leb maximum mostEntries) (eqb (entriesFault One entries) 0) (leb (reportSize One (length (encodeAll ns)) 0) room) refl refl e
   where
     k : ℕ
-    k = keptOf ns entries maximum room
+    k = keptOf One ns entries maximum room
 
-    go : (a b m c d : Bool) → eqb (firstFault ns) 0 ≡ b → eqb (entriesFault entries) 0 ≡ c
-        → Refused n ≡ pick a (pick b (pick m (pick c (pick d (Done (reportSize (length (encodeAll ns)) k) k) (Refused 9)) (Refused (entriesFault entries))) (Refused 10)) (Refused (firstFault ns))) (Refused 5)
+    go : (a b m c d : Bool) → eqb (firstFault One ns) 0 ≡ b → eqb (entriesFault One entries) 0 ≡ c
+        → Refused n ≡ pick a (pick b (pick m (pick c (pick d (Done (reportSize One (length (encodeAll ns)) k) k) (Refused 9)) (Refused (entriesFault One entries))) (Refused 10)) (Refused (firstFault One ns))) (Refused 5)
         → ⊥
     go true true true true true p q f = let y : _≡_ {A = ℕ} 0 1 = cc in omega arith
     go true true true true false p q f = let y : n ≡ 9 = cc in omega arith
-    go true true true false d p q f = let y : n ≡ entriesFault entries = cc in eqb-false (entriesFault entries) 0 q (sym y ∙ z)
+    go true true true false d p q f = let y : n ≡ entriesFault One entries = cc in eqb-false (entriesFault One entries) 0 q (sym y ∙ z)
     go true true false c d p q f = let y : n ≡ 10 = cc in omega arith
-    go true false m c d p q f = let y : n ≡ firstFault ns = cc in eqb-false (firstFault ns) 0 p (sym y ∙ z)
+    go true false m c d p q f = let y : n ≡ firstFault One ns = cc in eqb-false (firstFault One ns) 0 p (sym y ∙ z)
     go false b m c d p q f = let y : n ≡ 5 = cc in omega arith
 
 pub through-and-back : ThroughAndBack
 through-and-back r time interval room maximum xs e m l =
-    go (writeAnswer (summaryOf r time interval) (entriesAt r time) maximum (length xs)) refl (report-writes (summaryOf r time interval) (entriesAt r time) maximum (length xs) .accepted .1 (writer-takes r time interval room maximum e m, l))
+    go (writeAnswer One (summaryOf r time interval) (entriesAt r time) maximum (length xs)) refl (report-writes One (summaryOf r time interval) (entriesAt r time) maximum (length xs) .accepted .1 (writer-takes r time interval room maximum e m, l))
   where
-    go : (w : Written) → w ≡ writeAnswer (summaryOf r time interval) (entriesAt r time) maximum (length xs) → writtenRefusal (writeAnswer (summaryOf r time interval) (entriesAt r time) maximum (length xs)) ≡ 0
+    go : (w : Written) → w ≡ writeAnswer One (summaryOf r time interval) (entriesAt r time) maximum (length xs) → writtenRefusal (writeAnswer One (summaryOf r time interval) (entriesAt r time) maximum (length xs)) ≡ 0
         → GoesThrough r time interval maximum xs
-    go (Done next kept) q z = record { next = next; kept = kept; written = q; back = write-read (summaryOf r time interval) (entriesAt r time) maximum xs next kept q }
-    go (Refused n) q z = absurd (refuses-some (numbersOf (summaryOf r time interval)) (entriesAt r time) maximum (length xs) n q (ap writtenRefusal q ∙ z))
+    go (Done next kept) q z = record { next = next; kept = kept; written = q; back = write-read One (summaryOf r time interval) (entriesAt r time) maximum xs next kept q }
+    go (Refused n) q z = absurd (refuses-some (numbersOf One (summaryOf r time interval)) (entriesAt r time) maximum (length xs) n q (ap writtenRefusal q ∙ z))

@@ -4,8 +4,10 @@ use mathlib.Core.Path.{_≡_}
 use mathlib.Core.List.{List}
 use lib.ListN.{length}
 use Rattle.wire.specs.Numbers.{encodeAll}
-use Rattle.entries.specs.Limits.{recordSize, mostEntries}
+use Rattle.entries.specs.Limits.{mostEntries}
+use Rattle.entries.specs.Profiles.{recordSize}
 use Rattle.entries.specs.Exactly.{Obeys}
+use Rattle.entries.specs.declared.Profile.the-variants.{One}
 use Rattle.report.specs.Header.{numbersOf}
 use Rattle.report.specs.Writer.{reportSize, writeAnswer, writeBytes}
 use Rattle.report.specs.Exactly.{SumHolds, Passes}
@@ -19,24 +21,24 @@ TotalIsParts = (r : List ℕ) (time interval : ℕ) → SumHolds (summaryOf r ti
 
 -- the header's entry count is the number of records made
 abbrev pub EntriesCounted : Type 0
-EntriesCounted = (r : List ℕ) (time interval : ℕ) → length (entriesAt r time) ≡ recordSize * summaryOf r time interval .entries
+EntriesCounted = (r : List ℕ) (time interval : ℕ) → length (entriesAt r time) ≡ recordSize One * summaryOf r time interval .entries
 
 -- header and records pass the writer, with any maximum that passes: its numbers, its sum, no metrics; each record obeys its rule and the objects rise
 abbrev pub WriterTakes : Type 0
-WriterTakes = (r : List ℕ) (time interval room maximum : ℕ) → reportRefusal r time interval room ≡ 0 → maximum ≤ mostEntries → Passes (summaryOf r time interval) (entriesAt r time) maximum
+WriterTakes = (r : List ℕ) (time interval room maximum : ℕ) → reportRefusal r time interval room ≡ 0 → maximum ≤ mostEntries → Passes One (summaryOf r time interval) (entriesAt r time) maximum
 
 -- every object has at most one entry: each record is an entry, and its object number is above its forerunner's
 abbrev pub EntriesRise : Type 0
-EntriesRise = (r : List ℕ) (time interval room : ℕ) → reportRefusal r time interval room ≡ 0 → (i : ℕ) → i < totalOf r time → Obeys (entriesAt r time) i
+EntriesRise = (r : List ℕ) (time interval room : ℕ) → reportRefusal r time interval room ≡ 0 → (i : ℕ) → i < totalOf r time → Obeys One (entriesAt r time) i
 
 -- written, and read again: the header, and exactly the records that the writer kept
 pub record GoesThrough (r : List ℕ) (time interval maximum : ℕ) (xs : List ℕ) : Type 0 where
   pub next : ℕ
   pub kept : ℕ
-  pub written : Done next kept ≡ writeAnswer (summaryOf r time interval) (entriesAt r time) maximum (length xs)
-  pub back : ReadsBack (summaryOf r time interval) (entriesAt r time) (writeBytes (summaryOf r time interval) (entriesAt r time) maximum xs) next kept
+  pub written : Done next kept ≡ writeAnswer One (summaryOf r time interval) (entriesAt r time) maximum (length xs)
+  pub back : ReadsBack One (summaryOf r time interval) (entriesAt r time) (writeBytes One (summaryOf r time interval) (entriesAt r time) maximum xs) next kept
 
 abbrev pub ThroughAndBack : Type 0
 ThroughAndBack =
     (r : List ℕ) (time interval room maximum : ℕ) (xs : List ℕ) → reportRefusal r time interval room ≡ 0 → maximum ≤ mostEntries
-    → reportSize (length (encodeAll (numbersOf (summaryOf r time interval)))) 0 ≤ length xs → GoesThrough r time interval maximum xs
+    → reportSize One (length (encodeAll (numbersOf One (summaryOf r time interval)))) 0 ≤ length xs → GoesThrough r time interval maximum xs

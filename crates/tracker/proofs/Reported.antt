@@ -11,7 +11,8 @@ use lib.IntN.{ℤ, pos, negℤ}
 use lib.ListN.{length}
 use Rattle.wire.specs.Bytes.{pick, splice}
 use Rattle.wire.specs.Numbers.{limit}
-use Rattle.entries.specs.Limits.{recordSize}
+use Rattle.entries.specs.Profiles.{recordSize}
+use Rattle.entries.specs.declared.Profile.the-variants.{One}
 use Rattle.report.specs.Average.{storedOf}
 use Rattle.report.specs.Header.{emptyHeader}
 use Rattle.report.specs.declared.Header.{Header}
@@ -128,13 +129,13 @@ module _ (r : List ℕ) (time interval room : ℕ) where
       refused-range e = rw (sound, small, e)
 
       module _ (fits : averageFits r ≡ true) where
-        pub refused-room : room < recordSize * totalOf r time → reportRefusal r time interval room ≡ 9
+        pub refused-room : room < recordSize One * totalOf r time → reportRefusal r time interval room ≡ 9
         unfolding reportRefusal
-        refused-room h = rw (sound, small, fits, lt-leb (recordSize * totalOf r time) room h)
+        refused-room h = rw (sound, small, fits, lt-leb (recordSize One * totalOf r time) room h)
 
-        pub accepted-room : recordSize * totalOf r time ≤ room → reportRefusal r time interval room ≡ 0
+        pub accepted-room : recordSize One * totalOf r time ≤ room → reportRefusal r time interval room ≡ 0
         unfolding reportRefusal
-        accepted-room h = rw (sound, small, fits, le-leb (recordSize * totalOf r time) room h)
+        accepted-room h = rw (sound, small, fits, le-leb (recordSize One * totalOf r time) room h)
 
 -- ---- the answer and the lent buffer
 

@@ -7,7 +7,8 @@ use mathlib.Core.List.{List, [], _∷_}
 use lib.ListN.{length}
 use Rattle.wire.specs.Numbers.{limit}
 use Rattle.wire.specs.Exactly.{OneOf}
-use Rattle.entries.specs.Limits.{recordSize}
+use Rattle.entries.specs.Profiles.{recordSize}
+use Rattle.entries.specs.declared.Profile.the-variants.{One}
 use Rattle.report.specs.Average.{storedOf}
 use Rattle.tracker.specs.Record.{mostObjects, firstOf, intervalOf, namedOf, wordAt, stateOf, received, consistent}
 use Rattle.tracker.specs.Calls.{openRefusal, openAfter, placeOf, arrivedRefusal, arrivedAfter, endedRefusal, endedAfter}
@@ -68,8 +69,8 @@ InRange r = storedOf (averageAt r) ≤ limit
 pub record ReportRows (r : List ℕ) (time interval room refusal : ℕ) : Type 0 where
   pub one : refusal ≡ 1 ↔ (Consistent r → ⊥)
   pub five : refusal ≡ 5 ↔ (Consistent r × ((EndObeys time interval → ⊥) ⊎ (EndObeys time interval × (InRange r → ⊥))))
-  pub nine : refusal ≡ 9 ↔ (Consistent r × (EndObeys time interval × (InRange r × (room < recordSize * totalOf r time))))
-  pub accepted : refusal ≡ 0 ↔ (Consistent r × (EndObeys time interval × (InRange r × (recordSize * totalOf r time ≤ room))))
+  pub nine : refusal ≡ 9 ↔ (Consistent r × (EndObeys time interval × (InRange r × (room < recordSize One * totalOf r time))))
+  pub accepted : refusal ≡ 0 ↔ (Consistent r × (EndObeys time interval × (InRange r × (recordSize One * totalOf r time ≤ room))))
   pub others : OneOf refusal (0 ∷ 1 ∷ 5 ∷ 9 ∷ [])
 
 pub record Exactly : Type 0 where

@@ -7,10 +7,11 @@ use lib.IntN.{ℤ}
 use lib.ListN.{length}
 use Rattle.wire.specs.Bytes.{pick, splice}
 use Rattle.wire.specs.Numbers.{limit}
-use Rattle.entries.specs.Limits.{recordSize}
+use Rattle.entries.specs.Profiles.{recordSize}
+use Rattle.entries.specs.declared.Profile.the-variants.{One}
 use Rattle.report.specs.Average.{storedOf}
 use Rattle.report.specs.Header.{each, emptyHeader}
-use Rattle.report.specs.Limits.{mostMetrics}
+use Rattle.report.specs.Limits.{metricPlaces}
 use Rattle.report.specs.declared.Header.{Header}
 use Rattle.report.specs.declared.Report.{Report}
 use Rattle.tracker.specs.Record.{mostObjects, intervalOf, bothObey, consistent}
@@ -40,8 +41,8 @@ headerOf time interval total received late lost average = record {
   lost = lost;
   average = average;
   metrics = 0;
-  kinds = each mostMetrics 0 (λ i. 0);
-  values = each mostMetrics 0 (λ i. 0);
+  kinds = each metricPlaces 0 (λ i. 0);
+  values = each metricPlaces 0 (λ i. 0);
   entries = total;
 }
 
@@ -63,7 +64,7 @@ reportRefusal r time interval room =
     pick (consistent r)
     (pick (bothObey time interval)
     (pick (averageFits r)
-    (pick (leb (recordSize * totalOf r time) room) 0 9)
+    (pick (leb (recordSize One * totalOf r time) room) 0 9)
     5)
     5)
     1

@@ -25,7 +25,7 @@ use report::Report;
 fn refused(refusal: u64) -> Report
     ensures { λ r. ⌜ r ≡ record { refusal = refusal; header = emptyHeader } ⌝ }
 {
-    let none = [0u64; 4];
+    let none = [0u64; 8];
     Report {
         refusal,
         header: Header {
@@ -49,7 +49,7 @@ fn header(time: u64, interval: u64, counts: Counts, average: i64) -> Header
     requires { ⌜ (counts .received < 1000) × ((counts .late < 1000) × ((counts .missing < 1000) × (counts .partial < 1000))) ⌝ }
     ensures { λ r. ⌜ r ≡ headerOf time interval (counts .received + counts .late + (counts .missing + counts .partial)) (counts .received) (counts .late) (counts .missing + counts .partial) average ⌝ }
 {
-    let none = [0u64; 4];
+    let none = [0u64; 8];
     let lost = counts.missing + counts.partial;
     let total = counts.received + counts.late + lost;
     Header {

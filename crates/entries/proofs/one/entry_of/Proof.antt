@@ -1,80 +1,56 @@
--- `entries::entry_of` meets its contract: within a record every field is there, and the status and the zero bytes are read as one.
+-- `entries::entry_of` meets its contract: the group is the first field, where the profile has one, and the rest stands behind it.
 -- Assumes nothing.
-use native.Mathlib.Omega.{arith}
 use denote.Ref.{now}
-use Rattle.entries.proofs.Fields.{never-ends, field-is, entry-is, too-short}
+use Rattle.entries.proofs.Fields.{group-ends, group-there, group-is}
 use borrow.Author.Needs.{needs}
 use Rattle.entries.proofs.one.entry_of.Statement.{statement}
 use Rattle.entries.proofs.one.entry_of.Tie as tie
 
-returns : tie.Need-returns
-returns c = too-short (now (c .before .before .args .bytes)) (c .if1 .taken)
+group-in-requires : tie.Need-group-in-requires
+group-in-requires c κs = search needs
 
-read-fixed8-requires : tie.Need-read-fixed8-requires
-read-fixed8-requires c κs = search needs
-
-enum-known-object : tie.Need-enum-known-object
-enum-known-object c = search needs
+enum-known-group : tie.Need-enum-known-group
+enum-known-group c = search needs
 
 enum-told : tie.Need-enum-told
 enum-told c = search needs
 
+returns : tie.Need-returns
+returns c =
+    let a = c .before .before .before .before .args in
+    group-ends (a .profile) (now (a .bytes)) _ (c .before .before .group-in .ensures) (c .enum-told .given .1)
+
+sub-entry-behind : tie.Need-sub-entry-behind
+sub-entry-behind c =
+    let a = c .before .before .before .before .before .args in
+    group-there (a .profile) (now (a .bytes)) _ (c .before .before .before .group-in .ensures) _ _ (c .before .group .given .1)
+
+part-entry-behind-start : tie.Need-part-entry-behind-start
+part-entry-behind-start c =
+    let a = c .before .before .before .before .before .args in
+    group-there (a .profile) (now (a .bytes)) _ (c .before .before .before .group-in .ensures) _ _ (c .before .group .given .1)
+
+part-entry-behind-end : tie.Need-part-entry-behind-end
+part-entry-behind-end c = search needs
+
+entry-behind-requires : tie.Need-entry-behind-requires
+entry-behind-requires c κs = search needs
+
 returns-2 : tie.Need-returns-2
-returns-2 c = never-ends 8 (now (c .before .before .before .before .before .args .bytes)) 0 _ (omega (arith, c .before .before .before .if1 .left)) (c .enum-told .given .1) (c .before .before .read-fixed8 .ensures)
-
-read-fixed4-requires : tie.Need-read-fixed4-requires
-read-fixed4-requires c κs = search needs
-
-enum-known-mark : tie.Need-enum-known-mark
-enum-known-mark c = search needs
-
-enum-told-2 : tie.Need-enum-told-2
-enum-told-2 c = search needs
-
-returns-3 : tie.Need-returns-3
-returns-3 c = never-ends 4 (now (c .before .before .before .before .before .before .before .before .before .args .bytes)) 8 _ (omega (arith, c .before .before .before .before .before .before .before .if1 .left)) (c .enum-told2 .given .1) (c .before .before .read-fixed4 .ensures)
-
-read-fixed4-requires-2 : tie.Need-read-fixed4-requires-2
-read-fixed4-requires-2 c κs = search needs
-
-enum-known-age : tie.Need-enum-known-age
-enum-known-age c = search needs
-
-enum-told-3 : tie.Need-enum-told-3
-enum-told-3 c = search needs
-
-returns-4 : tie.Need-returns-4
-returns-4 c = never-ends 4 (now (c .before .before .before .before .before .before .before .before .before .before .before .before .before .args .bytes)) 12 _ (omega (arith, c .before .before .before .before .before .before .before .before .before .before .before .if1 .left)) (c .enum-told3 .given .1) (c .before .before .read-fixed42 .ensures)
-
-judge-entry-requires : tie.Need-judge-entry-requires
-judge-entry-requires c κs = search needs
-
-returns-5 : tie.Need-returns-5
-returns-5 c =
-    let b = now (c .before .before .before .before .before .before .before .before .before .before .before .before .before .before .before .args .bytes) in
-    let h = c .before .before .before .before .before .before .before .before .before .before .before .before .before .if1 .left in
-    entry-is b _ _ _ _ (λ i. c .before .before .before .before .before .before .before .before .before .before .before .before .before .before .shared-slice-known .given i .fits) h
-    (field-is 8 b 0 _ _ _ (omega (arith, h)) (c .before .before .before .before .before .before .before .before .before .before .object .given .1) (c .before .before .before .before .before .before .before .before .before .before .before .before .read-fixed8 .ensures))
-    (field-is 4 b 8 _ _ _ (omega (arith, h)) (c .before .before .before .before .before .before .mark .given .1) (c .before .before .before .before .before .before .before .before .read-fixed4 .ensures))
-    (field-is 4 b 12 _ _ _ (omega (arith, h)) (c .before .before .age .given .1) (c .before .before .before .before .read-fixed42 .ensures))
-    (c .judge-entry .ensures)
+returns-2 c =
+    let a = c .before .before .before .before .before .before .before .args in
+    group-is (a .profile) (now (a .bytes)) _ (c .before .before .before .before .before .group-in .ensures) _ _ (c .before .before .before .group .given .1) _ (c .entry-behind .ensures)
 
 pub entry-of-spec : {M : Type 1} → statement M
 entry-of-spec =
     tie.close
     (tie.spec
-    returns
-    read-fixed8-requires
-    enum-known-object
+    group-in-requires
+    enum-known-group
     enum-told
-    returns-2
-    read-fixed4-requires
-    enum-known-mark
-    enum-told-2
-    returns-3
-    read-fixed4-requires-2
-    enum-known-age
-    enum-told-3
-    returns-4
-    judge-entry-requires
-    returns-5)
+    returns
+    sub-entry-behind
+    part-entry-behind-start
+    part-entry-behind-end
+    entry-behind-requires
+    returns-2)

@@ -1,49 +1,34 @@
--- `entries::read_entry` meets its contract: the part that is handed on is the record of that index.
+-- `entries::read_entry` meets its contract: each arm is the answer of its profile.
 -- Assumes nothing.
-use mathlib.Core.Path.{ap, _∙_}
-use Prim.Native.Nat.{_*_}
-use denote.Ref.{now}
-use Rattle.entries.specs.Entries.{entryOf}
-use Rattle.entries.proofs.Fields.{record-part, ends-at}
+use borrow.Author.Tests.{ne-eqb}
 use borrow.Author.Needs.{needs}
 use Rattle.entries.proofs.one.read_entry.Statement.{statement}
 use Rattle.entries.proofs.one.read_entry.Tie as tie
 
+entry-at-requires : tie.Need-entry-at-requires
+entry-at-requires c κs = search needs
+
+entry-at-requires-2 : tie.Need-entry-at-requires-2
+entry-at-requires-2 c κs = search needs
+
 returns : tie.Need-returns
-returns c = ends-at (now (c .before .before .args .entries)) (c .before .before .args .index) (c .if1 .taken)
-
-mul-at : tie.Need-mul-at
-mul-at c = search needs
-
-add-end : tie.Need-add-end
-add-end c = search needs
-
-sub-entry-of : tie.Need-sub-entry-of
-sub-entry-of c = search needs
-
-part-entry-of-start : tie.Need-part-entry-of-start
-part-entry-of-start c = search needs
-
-part-entry-of-end : tie.Need-part-entry-of-end
-part-entry-of-end c = search needs
-
-entry-of-requires : tie.Need-entry-of-requires
-entry-of-requires c κs = search needs
+returns c = rw (c .before .match .keys1) (c .entry-at .ensures)
 
 returns-2 : tie.Need-returns-2
-returns-2 c =
-    let a = c .before .before .before .before .args in
-    c .entry-of .ensures ∙ ap entryOf (record-part (now (a .entries)) (a .index * 16))
+returns-2 c = rw (c .before .match .keys2) (c .entry-at2 .ensures)
+
+returns-3 : tie.Need-returns-3
+returns-3 c =
+    let n = c .before .before .args .profile in
+    let r = c .match .rest in
+    rw (ne-eqb n 1 (r .0 .1), ne-eqb n 2 (r .1))
 
 pub read-entry-spec : {M : Type 1} → statement M
 read-entry-spec =
     tie.close
     (tie.spec
+    entry-at-requires
+    entry-at-requires-2
     returns
-    mul-at
-    add-end
-    sub-entry-of
-    part-entry-of-start
-    part-entry-of-end
-    entry-of-requires
-    returns-2)
+    returns-2
+    returns-3)

@@ -26,6 +26,12 @@ enum-told-2 c = search needs
 no-entry-requires-2 : tie.Need-no-entry-requires-2
 no-entry-requires-2 c κs = search needs
 
+enum-told-3 : tie.Need-enum-told-3
+enum-told-3 c = search needs
+
+no-entry-requires-3 : tie.Need-no-entry-requires-3
+no-entry-requires-3 c κs = search needs
+
 returns : tie.Need-returns
 unfolding entryOut
 returns c = rw (c .status-out .ensures, c .before .before .before .before .refusal .ensures, c .before .before .answer .given .1)
@@ -38,6 +44,10 @@ returns-3 : tie.Need-returns-3
 unfolding entryOut
 returns-3 c = rw (c .no-entry2 .ensures, c .before .before .before .refusal .ensures, c .before .enum-told2 .given .1)
 
+returns-4 : tie.Need-returns-4
+unfolding entryOut
+returns-4 c = rw (c .no-entry3 .ensures, c .before .before .before .refusal .ensures, c .before .enum-told3 .given .1)
+
 pub entry-out-spec : {M : Type 1} → statement M
 entry-out-spec =
     tie.close
@@ -49,6 +59,9 @@ entry-out-spec =
     no-entry-requires
     enum-told-2
     no-entry-requires-2
+    enum-told-3
+    no-entry-requires-3
     returns
     returns-2
-    returns-3)
+    returns-3
+    returns-4)

@@ -10,7 +10,7 @@ entries-of-requires : tie.Need-entries-of-requires
 entries-of-requires c κs = search needs
 
 sub-start : tie.Need-sub-start
-sub-start c = rw (c .entries-of .ensures) (no-longer (now (c .before .before .args .bytes)))
+sub-start c = rw (c .entries-of .ensures) (no-longer (c .before .before .args .profile) (now (c .before .before .args .bytes)))
 
 returns : tie.Need-returns
 returns c = rw (c .entries-of .ensures)

@@ -7,29 +7,11 @@ use borrow.Author.Needs.{needs}
 use Rattle.report.proofs.headers.header_of.Statement.{statement}
 use Rattle.report.proofs.headers.header_of.Tie as tie
 
-metric-at-requires : tie.Need-metric-at-requires
-metric-at-requires c κs = search needs
+metrics-of-requires : tie.Need-metrics-of-requires
+metrics-of-requires c κs = search needs
 
-metric-at-requires-2 : tie.Need-metric-at-requires-2
-metric-at-requires-2 c κs = search needs
-
-metric-at-requires-3 : tie.Need-metric-at-requires-3
-metric-at-requires-3 c κs = search needs
-
-metric-at-requires-4 : tie.Need-metric-at-requires-4
-metric-at-requires-4 c κs = search needs
-
-metric-at-requires-5 : tie.Need-metric-at-requires-5
-metric-at-requires-5 c κs = search needs
-
-metric-at-requires-6 : tie.Need-metric-at-requires-6
-metric-at-requires-6 c κs = search needs
-
-metric-at-requires-7 : tie.Need-metric-at-requires-7
-metric-at-requires-7 c κs = search needs
-
-metric-at-requires-8 : tie.Need-metric-at-requires-8
-metric-at-requires-8 c κs = search needs
+metrics-of-requires-2 : tie.Need-metrics-of-requires-2
+metrics-of-requires-2 c κs = search needs
 
 number-at-requires : tie.Need-number-at-requires
 number-at-requires c κs = search needs
@@ -76,28 +58,16 @@ returns c =
       toZ-ofZ w64 (c .before .before .before .before .before .before .before .before .average .result) (record { sfits = c .before .before .before .before .before .before .before .before .average .ok }),
       c .before .before .before .before .before .before .before .before .average .ensures,
       c .before .before .before .before .before .before .before .before .before .number-at .ensures,
-      c .before .before .before .before .before .before .before .before .before .before .metric-at8 .ensures,
-      c .before .before .before .before .before .before .before .before .before .before .before .metric-at7 .ensures,
-      c .before .before .before .before .before .before .before .before .before .before .before .before .metric-at6 .ensures,
-      c .before .before .before .before .before .before .before .before .before .before .before .before .before .metric-at5 .ensures,
-      c .before .before .before .before .before .before .before .before .before .before .before .before .before .before .metric-at4 .ensures,
-      c .before .before .before .before .before .before .before .before .before .before .before .before .before .before .before .metric-at3 .ensures,
-      c .before .before .before .before .before .before .before .before .before .before .before .before .before .before .before .before .metric-at2 .ensures,
-      c .before .before .before .before .before .before .before .before .before .before .before .before .before .before .before .before .before .metric-at .ensures,
+      c .before .before .before .before .before .before .before .before .before .before .metrics-of2 .ensures,
+      c .before .before .before .before .before .before .before .before .before .before .before .metrics-of .ensures,
     )
 
 pub header-of-spec : {M : Type 1} → statement M
 header-of-spec =
     tie.close
     (tie.spec
-    metric-at-requires
-    metric-at-requires-2
-    metric-at-requires-3
-    metric-at-requires-4
-    metric-at-requires-5
-    metric-at-requires-6
-    metric-at-requires-7
-    metric-at-requires-8
+    metrics-of-requires
+    metrics-of-requires-2
     number-at-requires
     average-requires
     number-at-requires-2

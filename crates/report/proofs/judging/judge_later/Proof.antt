@@ -29,22 +29,22 @@ returns-2 c =
     let ns = now (a .numbers) in
     rw (eq-eqb ((length ns - 8) / 2) (getD ns 7 0) (c .before .if1 .taken), lt-leb (a .v) 200 (c .if2 .left))
 
-known-type-requires : tie.Need-known-type-requires
-known-type-requires c κs = search needs
+type-allowed-requires : tie.Need-type-allowed-requires
+type-allowed-requires c κs = search needs
 
 returns-3 : tie.Need-returns-3
 unfolding judgeLater
 returns-3 c =
     let a = c .before .before .before .before .before .args in
     let ns = now (a .numbers) in
-    rw (ne-eqb ((length ns - 8) / 2) (getD ns 7 0) (c .before .before .if1 .left), ← (c .before .known-type .ensures), not-true (c .before .known-type .result) (c .if3 .taken))
+    rw (ne-eqb ((length ns - 8) / 2) (getD ns 7 0) (c .before .before .if1 .left), ← (c .before .type-allowed .ensures), not-true (c .before .type-allowed .result) (c .if3 .taken))
 
 returns-4 : tie.Need-returns-4
 unfolding judgeLater
 returns-4 c =
     let a = c .before .before .before .before .before .before .args in
     let ns = now (a .numbers) in
-    rw (ne-eqb ((length ns - 8) / 2) (getD ns 7 0) (c .before .before .before .if1 .left), ← (c .before .before .known-type .ensures), not-false (c .before .before .known-type .result) (c .before .if3 .left), eq-eqb (length ns) 8 (c .if4 .taken))
+    rw (ne-eqb ((length ns - 8) / 2) (getD ns 7 0) (c .before .before .before .if1 .left), ← (c .before .before .type-allowed .ensures), not-false (c .before .before .type-allowed .result) (c .before .if3 .left), eq-eqb (length ns) 8 (c .if4 .taken))
 
 sub-if5 : tie.Need-sub-if5
 sub-if5 c = search needs
@@ -60,14 +60,14 @@ unfolding judgeLater
 returns-5 c =
     let a = c .before .before .before .before .before .before .before .before .args in
     let ns = now (a .numbers) in
-    rw (ne-eqb ((length ns - 8) / 2) (getD ns 7 0) (c .before .before .before .before .before .if1 .left), ← (c .before .before .before .before .known-type .ensures), not-false (c .before .before .before .before .known-type .result) (c .before .before .before .if3 .left), ne-eqb (length ns) 8 (c .before .before .if4 .left), lt-ltb (getD ns (length ns - 2) 0) (a .v) (c .if5 .taken))
+    rw (ne-eqb ((length ns - 8) / 2) (getD ns 7 0) (c .before .before .before .before .before .if1 .left), ← (c .before .before .before .before .type-allowed .ensures), not-false (c .before .before .before .before .type-allowed .result) (c .before .before .before .if3 .left), ne-eqb (length ns) 8 (c .before .before .if4 .left), lt-ltb (getD ns (length ns - 2) 0) (a .v) (c .if5 .taken))
 
 returns-6 : tie.Need-returns-6
 unfolding judgeLater
 returns-6 c =
     let a = c .before .before .before .before .before .before .before .before .args in
     let ns = now (a .numbers) in
-    rw (ne-eqb ((length ns - 8) / 2) (getD ns 7 0) (c .before .before .before .before .before .if1 .left), ← (c .before .before .before .before .known-type .ensures), not-false (c .before .before .before .before .known-type .result) (c .before .before .before .if3 .left), ne-eqb (length ns) 8 (c .before .before .if4 .left), le-ltb (getD ns (length ns - 2) 0) (a .v) (c .if5 .left))
+    rw (ne-eqb ((length ns - 8) / 2) (getD ns 7 0) (c .before .before .before .before .before .if1 .left), ← (c .before .before .before .before .type-allowed .ensures), not-false (c .before .before .before .before .type-allowed .result) (c .before .before .before .if3 .left), ne-eqb (length ns) 8 (c .before .before .if4 .left), le-ltb (getD ns (length ns - 2) 0) (a .v) (c .if5 .left))
 
 pub judge-later-spec : {M : Type 1} → statement M
 judge-later-spec =
@@ -77,7 +77,7 @@ judge-later-spec =
     shared-slice-read-metrics
     returns
     returns-2
-    known-type-requires
+    type-allowed-requires
     returns-3
     returns-4
     sub-if5

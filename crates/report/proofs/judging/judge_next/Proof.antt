@@ -35,19 +35,22 @@ returns-2 c =
     let ns = now (a .numbers) in
     rw (eq-eqb (length ns) 5 (c .before .before .before .before .before .if1 .taken), ← (c .before .adds-up .ensures), c .if2 .left)
 
+most-metrics-requires : tie.Need-most-metrics-requires
+most-metrics-requires c κs = search needs
+
 returns-3 : tie.Need-returns-3
 unfolding judge
 returns-3 c =
-    let a = c .before .before .before .before .args in
+    let a = c .before .before .before .before .before .args in
     let ns = now (a .numbers) in
-    rw (ne-eqb (length ns) 5 (c .before .before .if1 .left), eq-eqb (length ns) 7 (c .before .if3 .taken), le-leb (a .v) 4 (c .if4 .taken))
+    rw (ne-eqb (length ns) 5 (c .before .before .before .if1 .left), eq-eqb (length ns) 7 (c .before .before .if3 .taken), ← (c .before .most-metrics .ensures .0), le-leb (a .v) (c .before .most-metrics .result) (c .if4 .taken))
 
 returns-4 : tie.Need-returns-4
 unfolding judge
 returns-4 c =
-    let a = c .before .before .before .before .args in
+    let a = c .before .before .before .before .before .args in
     let ns = now (a .numbers) in
-    rw (ne-eqb (length ns) 5 (c .before .before .if1 .left), eq-eqb (length ns) 7 (c .before .if3 .taken), lt-leb (a .v) 4 (c .if4 .left))
+    rw (ne-eqb (length ns) 5 (c .before .before .before .if1 .left), eq-eqb (length ns) 7 (c .before .before .if3 .taken), ← (c .before .most-metrics .ensures .0), lt-leb (a .v) (c .before .most-metrics .result) (c .if4 .left))
 
 returns-5 : tie.Need-returns-5
 unfolding judge
@@ -83,6 +86,7 @@ judge-next-spec =
     adds-up-requires
     returns
     returns-2
+    most-metrics-requires
     returns-3
     returns-4
     returns-5

@@ -17,10 +17,10 @@ use Rattle.report.proofs.reader.read_numbers.Statement.{statement}
 use Rattle.report.proofs.reader.read_numbers.Tie as tie
 
 abbrev Inv-loop : tie.InvT-loop
-Inv-loop s numbers₀ at₀ count₀ numbers at count = (count ≤ mostNumbers) × ((length numbers ≡ mostNumbers) × ((at ≤ length s) × (numbersFrom (mostNumbers - count) s at (take count numbers) ≡ readNumbers s)))
+Inv-loop profile s numbers₀ at₀ count₀ numbers at count = (count ≤ mostNumbers) × ((length numbers ≡ mostNumbers) × ((at ≤ length s) × (numbersFrom profile (mostNumbers - count) s at (take count numbers) ≡ readNumbers profile s)))
 
 abbrev μ-loop : tie.MeasureT-loop
-μ-loop s numbers₀ at₀ count₀ numbers at count = mostNumbers - count
+μ-loop profile s numbers₀ at₀ count₀ numbers at count = mostNumbers - count
 
 loop-holds : tie.Need-loop-holds Inv-loop μ-loop
 loop-holds c = (omega arith, (refl, (zero-le, refl)))
@@ -37,9 +37,10 @@ wanted-requires c κs = search needs
 returns : tie.Need-returns Inv-loop μ-loop
 returns c =
     let l = c .before .before .before .before .loop in
+    let p = c .before .before .before .before .before .before .args .profile in
     let s = now (c .before .before .before .before .before .before .args .s) in
-    let w : wantedOf (take (l .count) (l .numbers)) ≤ l .count = rw (c .before .wanted .ensures) at (c .if1 .taken) in
-    (found-whole (record { refusal = 0; next = l .at; count = l .count; numbers = l .numbers }) refl ∙ whole-now s (l .numbers) (l .at) (l .count) (readNumbers s) (c .before .before .before .loop-test .taken) (l .inv .1 .0) (l .inv .1 .1 .1) w, (l .inv .1 .1 .0, l .inv .0))
+    let w : wantedOf p (take (l .count) (l .numbers)) ≤ l .count = rw (c .before .wanted .ensures) at (c .if1 .taken) in
+    (found-whole (record { refusal = 0; next = l .at; count = l .count; numbers = l .numbers }) refl ∙ whole-now p s (l .numbers) (l .at) (l .count) (readNumbers p s) (c .before .before .before .loop-test .taken) (l .inv .1 .0) (l .inv .1 .1 .1) w, (l .inv .1 .1 .0, l .inv .0))
 
 read-number-requires : tie.Need-read-number-requires Inv-loop μ-loop
 read-number-requires c κs = search needs
@@ -56,11 +57,12 @@ stopped-requires c κs = search needs
 returns-2 : tie.Need-returns-2 Inv-loop μ-loop
 returns-2 c =
     let l = c .before .before .before .before .before .before .before .before .loop in
+    let p = c .before .before .before .before .before .before .before .before .before .before .args .profile in
     let s = now (c .before .before .before .before .before .before .before .before .before .before .args .s) in
-    let w : l .count < wantedOf (take (l .count) (l .numbers)) = rw (c .before .before .before .before .before .wanted .ensures) at (c .before .before .before .before .if1 .left) in
+    let w : l .count < wantedOf p (take (l .count) (l .numbers)) = rw (c .before .before .before .before .before .wanted .ensures) at (c .before .before .before .before .if1 .left) in
     let e = sym (c .before .before .before .read-number .ensures) ∙ c .before .enum-told .given .1 in
     let t = c .stopped .ensures in
-    (found-stopped (c .stopped .result) 2 (t .0) (eqb-false 2 0 refl) ∙ ends-now s (l .numbers) (l .at) (l .count) (readNumbers s) (c .before .before .before .before .before .before .before .loop-test .taken) (l .inv .1 .0) (l .inv .1 .1 .1) w e, (omega (arith, t .1), omega (arith, t .1)))
+    (found-stopped (c .stopped .result) 2 (t .0) (eqb-false 2 0 refl) ∙ ends-now p s (l .numbers) (l .at) (l .count) (readNumbers p s) (c .before .before .before .before .before .before .before .loop-test .taken) (l .inv .1 .0) (l .inv .1 .1 .1) w e, (omega (arith, t .1), omega (arith, t .1)))
 
 array-share-prefix-numbers-2 : tie.Need-array-share-prefix-numbers-2 Inv-loop μ-loop
 array-share-prefix-numbers-2 c = omega (arith, c .before .before .before .before .before .before .before .before .loop .inv)
@@ -77,12 +79,13 @@ stopped-requires-2 c κs = search needs
 returns-3 : tie.Need-returns-3 Inv-loop μ-loop
 returns-3 c =
     let l = c .before .before .before .before .before .before .before .before .before .before .before .before .loop in
+    let p = c .before .before .before .before .before .before .before .before .before .before .before .before .before .before .args .profile in
     let s = now (c .before .before .before .before .before .before .before .before .before .before .before .before .before .before .args .s) in
-    let w : l .count < wantedOf (take (l .count) (l .numbers)) = rw (c .before .before .before .before .before .before .before .before .before .wanted .ensures) at (c .before .before .before .before .before .before .before .before .if1 .left) in
+    let w : l .count < wantedOf p (take (l .count) (l .numbers)) = rw (c .before .before .before .before .before .before .before .before .before .wanted .ensures) at (c .before .before .before .before .before .before .before .before .if1 .left) in
     let e = sym (c .before .before .before .before .before .before .before .read-number .ensures) ∙ c .before .before .before .before .before .value .given .1 in
     let t = c .stopped2 .ensures in
     let n = c .before .if2 .taken in
-    (found-stopped (c .stopped2 .result) (c .before .before .judge-field .result) (t .0) n ∙ refused-now s (l .numbers) (l .at) (l .count) (readNumbers s) (c .before .before .before .before .before .before .before .before .before .before .before .loop-test .taken) (l .inv .1 .0) (l .inv .1 .1 .1) _ _ (c .before .before .judge-field .result) _ w e (c .before .before .judge-field .ensures) n, (omega (arith, t .1), omega (arith, t .1)))
+    (found-stopped (c .stopped2 .result) (c .before .before .judge-field .result) (t .0) n ∙ refused-now p s (l .numbers) (l .at) (l .count) (readNumbers p s) (c .before .before .before .before .before .before .before .before .before .before .before .loop-test .taken) (l .inv .1 .0) (l .inv .1 .1 .1) _ _ (c .before .before .judge-field .result) _ w e (c .before .before .judge-field .ensures) n, (omega (arith, t .1), omega (arith, t .1)))
 
 mul-numbers : tie.Need-mul-numbers Inv-loop μ-loop
 mul-numbers c = omega (arith, c .before .before .before .before .before .before .before .before .before .before .loop-test .taken)
@@ -99,18 +102,20 @@ loop-less c = omega (arith, c .before .before .before .before .before .before .b
 loop-again : tie.Need-loop-again Inv-loop μ-loop
 loop-again c =
     let l = c .before .before .before .before .before .before .before .before .before .before .before .loop in
+    let p = c .before .before .before .before .before .before .before .before .before .before .before .before .before .args .profile in
     let s = now (c .before .before .before .before .before .before .before .before .before .before .before .before .before .args .s) in
     let o = c .before .before .before .before .before .before .before .before .before .before .before .before .shared-slice-known .given in
     let h = c .before .before .before .before .before .before .before .before .before .before .loop-test .taken in
-    let w : l .count < wantedOf (take (l .count) (l .numbers)) = rw (c .before .before .before .before .before .before .before .before .wanted .ensures) at (c .before .before .before .before .before .before .before .if1 .left) in
+    let w : l .count < wantedOf p (take (l .count) (l .numbers)) = rw (c .before .before .before .before .before .before .before .before .wanted .ensures) at (c .before .before .before .before .before .before .before .if1 .left) in
     let e = sym (c .before .before .before .before .before .before .read-number .ensures) ∙ c .before .before .before .before .value .given .1 in
-    (omega (arith, h), (simp length-set (l .inv .1 .0), (accepted-within s (l .at) _ _ (λ i. o i .fits) e, more-now s (l .numbers) (l .at) (l .count) (readNumbers s) h (l .inv .1 .0) (l .inv .1 .1 .1) _ _ (c .before .judge-field .result) _ w e (c .before .judge-field .ensures) (c .if2 .left))))
+    (omega (arith, h), (simp length-set (l .inv .1 .0), (accepted-within s (l .at) _ _ (λ i. o i .fits) e, more-now p s (l .numbers) (l .at) (l .count) (readNumbers p s) h (l .inv .1 .0) (l .inv .1 .1 .1) _ _ (c .before .judge-field .result) _ w e (c .before .judge-field .ensures) (c .if2 .left))))
 
 returns-4 : tie.Need-returns-4 Inv-loop μ-loop
 returns-4 c =
     let l = c .before .loop in
+    let p = c .before .before .before .args .profile in
     let s = now (c .before .before .before .args .s) in
-    (found-whole (record { refusal = 0; next = l .at; count = l .count; numbers = l .numbers }) refl ∙ full-now s (l .numbers) (l .at) (l .count) (readNumbers s) (c .loop-test .left) (l .inv .1 .1 .1), (l .inv .1 .1 .0, l .inv .0))
+    (found-whole (record { refusal = 0; next = l .at; count = l .count; numbers = l .numbers }) refl ∙ full-now p s (l .numbers) (l .at) (l .count) (readNumbers p s) (c .loop-test .left) (l .inv .1 .1 .1), (l .inv .1 .1 .0, l .inv .0))
 
 pub read-numbers-spec : {M : Type 1} → statement M
 read-numbers-spec =

@@ -1,44 +1,47 @@
--- `report::read_report` meets its contract: the judged numbers, or the refusal, make the report.
+-- `report::read_report` meets its contract: the number is that of the profile which was found, or of none.
 -- Assumes nothing.
-use mathlib.Core.Path.{_≡_, sym}
-use native.Mathlib.Omega.{arith}
+use mathlib.Core.Path.{sym, _∙_}
 use denote.Ref.{now}
-use lib.ListN.{length}
-use lib.Seq.{length-take-le}
-use Rattle.report.proofs.Whole.{report-stopped, report-whole}
+use Rattle.report.specs.Reader.{Stopped, reportOf, readReport}
+use Rattle.report.proofs.Numbered.{asked-for, asked-none}
 use borrow.Author.Needs.{needs}
 use Rattle.report.proofs.reader.read_report.Statement.{statement}
 use Rattle.report.proofs.reader.read_report.Tie as tie
 
-judge-report-requires : tie.Need-judge-report-requires
-judge-report-requires c κs = search needs
+asked-for-requires : tie.Need-asked-for-requires
+asked-for-requires c κs = search needs
+
+enum-known-known : tie.Need-enum-known-known
+enum-known-known c = search needs
+
+enum-told : tie.Need-enum-told
+enum-told c = search needs
 
 empty-header-requires : tie.Need-empty-header-requires
 empty-header-requires c κs = search needs
 
 returns : tie.Need-returns
-returns c = rw (c .empty-header .ensures) (report-stopped (now (c .before .before .before .before .args .s)) (c .before .before .judge-report .result) (c .before .if1 .taken) (c .before .before .judge-report .ensures .0))
+unfolding reportOf
+returns c =
+    let a = c .before .before .before .before .before .args in
+    rw (c .empty-header .ensures) (asked-none (a .profile) (reportOf (Stopped 18)) (λ p. readReport p (now (a .s))) (sym (c .before .enum-told .given .1) ∙ c .before .before .before .asked-for .ensures))
 
-array-share-prefix-numbers : tie.Need-array-share-prefix-numbers
-array-share-prefix-numbers c = let l : length (c .before .before .judge-report .result .numbers) ≡ 17 = search needs in omega (arith, c .before .before .judge-report .ensures .1)
-
-slice-aggregate-header-of : tie.Need-slice-aggregate-header-of
-slice-aggregate-header-of c = let l : length (c .before .before .before .judge-report .result .numbers) ≡ 17 = search needs in sym (length-take-le _ _ (omega (arith, c .before .before .before .judge-report .ensures .1)))
-
-header-of-requires : tie.Need-header-of-requires
-header-of-requires c κs = search needs
+read-as-requires : tie.Need-read-as-requires
+read-as-requires c κs = search needs
 
 returns-2 : tie.Need-returns-2
-returns-2 c = rw (c .header-of .ensures) (report-whole (now (c .before .before .before .before .before .before .args .s)) (c .before .before .before .before .judge-report .result) (c .before .before .before .if1 .left) (c .before .before .before .before .judge-report .ensures .0))
+returns-2 c =
+    let a = c .before .before .before .before .before .before .args in
+    c .read-as .ensures ∙ asked-for (a .profile) (reportOf (Stopped 18)) (λ p. readReport p (now (a .s))) _ (sym (c .before .before .known .given .1) ∙ c .before .before .before .before .asked-for .ensures)
 
 pub read-report-spec : {M : Type 1} → statement M
 read-report-spec =
     tie.close
     (tie.spec
-    judge-report-requires
+    asked-for-requires
+    enum-known-known
+    enum-told
     empty-header-requires
     returns
-    array-share-prefix-numbers
-    slice-aggregate-header-of
-    header-of-requires
+    read-as-requires
     returns-2)
