@@ -4,7 +4,7 @@
 CFLAGS = -std=c11 -Wall -Wextra -Wpedantic -Werror -O2 -Iinclude
 # The archive as hosts link it, and the crates whose archives are joined in it.
 ARCHIVE = target/lib/liblumbixet.a
-EXPORTS = host host_codec host_report host_tracker lent
+EXPORTS = host host_codec host_report host_tracker host_totals lent
 SOURCES = crates.txt $(shell find crates -name '*.rt' -o -name '*.antt')
 PAPER = target/paper/paper
 # The command of the technical desk.
@@ -107,8 +107,10 @@ host: archive
 	@target/host/check-lent
 	@$(CC) $(CFLAGS) tools/check-tracker.c $(ARCHIVE) -o target/host/check-tracker
 	@target/host/check-tracker
+	@$(CC) $(CFLAGS) tools/check-totals.c $(ARCHIVE) -o target/host/check-totals
+	@target/host/check-totals
 	@if command -v $(CXX) >/dev/null; then \
-	    printf '#include "lumbixet_lent.h"\n#include "lumbixet.h"\n#include "lumbixet_tracker.h"\n' | $(CXX) -std=c++11 -Wall -Wextra -Wpedantic -Werror -Iinclude -fsyntax-only -x c++ -; fi
+	    printf '#include "lumbixet_lent.h"\n#include "lumbixet.h"\n#include "lumbixet_tracker.h"\n#include "lumbixet_totals.h"\n' | $(CXX) -std=c++11 -Wall -Wextra -Wpedantic -Werror -Iinclude -fsyntax-only -x c++ -; fi
 	@set -e; for page in DRIVING TRACKING; do \
 	    sed -n '/^```c$$/,/^```$$/p' docs/$$page.md | sed '/^```/d' | \
 	        $(CC) $(CFLAGS) -Wno-unused-function -include tools/driving.h -fsyntax-only -x c -; \
@@ -139,7 +141,7 @@ rust: archive
 	@mkdir -p target/rust
 	@$(RUSTC) -O --crate-type rlib --crate-name lumbixet -o target/rust/liblumbixet.rlib bindings/rust/src/lib.rs
 	@$(RUSTC) --crate-type rlib --crate-name lumbixet --cfg 'feature="std"' -o target/rust/with-std.rlib bindings/rust/src/lib.rs
-	@set -e; for test in room edges objects rooms profiles; do \
+	@set -e; for test in room edges objects rooms profiles week; do \
 	    $(RUSTC) --test --extern lumbixet=target/rust/liblumbixet.rlib -o target/rust/$$test bindings/rust/tests/$$test.rs; \
 	    target/rust/$$test -q; \
 	done
@@ -168,6 +170,9 @@ compare: paper
 	@echo "The week's program and the second implementation, in 64 KiB of stack"
 	@bash -c 'ulimit -s 64 && exec target/bin/week' < crates/week/stdin | cmp - crates/week/stdout
 	@$(PAPER) compare-week target/bin/week $(WEEKS)
+	@echo
+	@echo 'The command, over the same files'
+	@$(PAPER) compare-week '$(COMMAND) week' $(WEEKS)
 	@echo
 	@echo 'The archive and the second implementation'
 	@$(PAPER) compare-archive $(ROUNDS)

@@ -21,8 +21,8 @@
  * of the CE mark, lumbixet_write takes which ACK to write, and a record is 288 bytes; one that was kept by an
  * earlier version is opened anew. 0.4 brought lumbixet_lent.h. 0.5 brought reports of 200 entries:
  * lumbixet_write_report takes the most that it may write. 0.6 brought profile 2 of the report: the calls of
- * lumbixet_report.h take the profile first, lumbixet_header holds 8 metrics, and lumbixet_entry has the group. Numbers keep
- * their meaning.
+ * lumbixet_report.h take the profile first, lumbixet_header holds 8 metrics, and lumbixet_entry has the group. 0.7 brought
+ * lumbixet_totals.h. Numbers keep their meaning.
  */
 #ifndef LUMBIXET_H
 #define LUMBIXET_H
@@ -37,10 +37,10 @@ extern "C" {
 
 /* The version of this header and of the archive that goes with it: its parts, one number to compare, and its name. */
 #define LUMBIXET_VERSION_MAJOR 0
-#define LUMBIXET_VERSION_MINOR 6
+#define LUMBIXET_VERSION_MINOR 7
 #define LUMBIXET_VERSION_PATCH 0
 #define LUMBIXET_VERSION (10000 * LUMBIXET_VERSION_MAJOR + 100 * LUMBIXET_VERSION_MINOR + LUMBIXET_VERSION_PATCH)
-#define LUMBIXET_VERSION_TEXT "0.6.0"
+#define LUMBIXET_VERSION_TEXT "0.7.0"
 
 /* The largest number, threshold and time: 2^62 - 1. */
 #define LUMBIXET_LARGEST UINT64_C(4611686018427387903)
@@ -73,6 +73,7 @@ enum {
     LUMBIXET_OUTSIDE = 17,      /* of the tracker: the object is none of the 256 */
     LUMBIXET_OTHER_PROFILE = 18, /* the report's profile is neither 1 nor 2 */
     LUMBIXET_NOT_ACKNOWLEDGED = 19, /* the confirmed number is above the largest acknowledged, or none is acknowledged */
+    LUMBIXET_TOO_LONG = 20,     /* of a week's totals: the report is longer than 8,192 bytes */
     LUMBIXET_STALE = 255        /* of lumbixet_threshold alone: an obsolete frame; nothing changed */
 };
 

@@ -31,6 +31,8 @@ static inline const char *lumbixet_refusal_text(uint64_t result)
         return "the profile is another one";
     if (result == LUMBIXET_NOT_ACKNOWLEDGED)
         return "this number was not acknowledged yet";
+    if (result == LUMBIXET_TOO_LONG)
+        return "the report is too long";
     if (result == LUMBIXET_STALE)
         return "the frame is stale";
     return result < sizeof texts / sizeof texts[0] ? texts[result] : "unknown";

@@ -12,12 +12,13 @@ pub enum Command {
     Replay,
     Frame,
     Report,
+    Week,
 }
 
 /// How lines are printed.
 #[derive(Clone, Copy, PartialEq, Eq)]
 pub enum Form {
-    /// As the proved program prints them; frames and reports in words.
+    /// As the proved programs print them; frames and reports in words.
     Plain,
     /// Each line as a sentence.
     Words,
@@ -45,7 +46,7 @@ pub enum Asked {
 
 impl Command {
     fn of(word: &str) -> Option<Command> {
-        [Command::Replay, Command::Frame, Command::Report].into_iter().find(|command| command.name() == word)
+        [Command::Replay, Command::Frame, Command::Report, Command::Week].into_iter().find(|command| command.name() == word)
     }
 
     pub fn name(self) -> &'static str {
@@ -53,13 +54,14 @@ impl Command {
             Command::Replay => "replay",
             Command::Frame => "frame",
             Command::Report => "report",
+            Command::Week => "week",
         }
     }
 }
 
 pub fn parse(words: Vec<OsString>) -> Result<Asked, String> {
     let mut words = words.into_iter();
-    let first = words.next().ok_or("a command is missing: replay, frame or report\nTry 'lumbixet --help'.")?;
+    let first = words.next().ok_or("a command is missing: replay, frame, report or week\nTry 'lumbixet --help'.")?;
     match first.to_str() {
         Some("--help") => return Ok(Asked::Help(help::general())),
         Some("--version") => return Ok(Asked::Version),
@@ -134,7 +136,7 @@ impl Options {
     fn settle(&mut self, command: Command) -> Result<(), String> {
         if self.operands.is_empty() {
             match command {
-                Command::Replay => self.operands.push("-".into()),
+                Command::Replay | Command::Week => self.operands.push("-".into()),
                 Command::Frame => {
                     return Err("the bytes of a frame are missing: HEX, a FILE, or - for standard input".to_string())
                 }

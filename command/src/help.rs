@@ -23,6 +23,7 @@ pub fn of(command: Command) -> String {
         Command::Replay => REPLAY,
         Command::Frame => FRAME,
         Command::Report => REPORT,
+        Command::Week => WEEK,
     };
     format!("{text}{STATUS}")
 }
@@ -34,6 +35,7 @@ Says what a receiver of a live hearing answers, and what frames and reports hold
   replay [FILE..]   replays the events of a hearing: index, result and cause of each
   frame HEX|FILE..  reads ACK, ACK_FREQUENCY and IMMEDIATE_ACK frames, field by field
   report FILE..     reads feedback reports, field by field, and their entries
+  week [FILE..]     adds up a week's feedback reports: one page
 
   --help            says this; after a command, what that command takes
   --version         prints the version
@@ -77,6 +79,20 @@ or what was refused and where. - is standard input.
   --profile N       the profile of the reports: 1, or 2 for entries with a group; without it 1
   --json            prints one object a line, for machines
   --strict          exit status 1 where a report was refused
+  --help            says this
+  --version         prints the version
+";
+
+const WEEK: &str = "lumbixet week [OPTION..] [FILE..]
+
+Adds up the feedback reports of a file, each after its length of four bytes with the high byte first,
+and prints one page: reports accepted, reports refused for each number that occurs, the four totals of
+the accepted summaries, and their entries by status. A number that would pass 2^64 - 1 stays there and
+is marked full. A report longer than 8,192 bytes is refused with 20. A file that ends early prints 2
+alone. Each FILE is a week of its own. Without one, and for -, it reads standard input.
+
+  --json            prints one object a line, for machines
+  --strict          exit status 1 where a report was refused or a file ends early
   --help            says this
   --version         prints the version
 ";

@@ -1,5 +1,5 @@
-//! The command `lumbixet`: replays hearings, reads frames and feedback reports, and says what they hold. Every answer is that
-//! of a proved call of the archive (bindings/rust); what stands here reads, prints and draws.
+//! The command `lumbixet`: replays hearings, reads frames and feedback reports, adds up a week's, and says what they hold. Every
+//! answer is that of a proved call of the archive (bindings/rust); what stands here reads, prints and draws.
 //!
 //! It has a `main` of its own, as C programs do: Rust's would put /dev/null in place of an output that the caller closed, and
 //! the log would be lost in silence. So it fails. A file that gets the number of a closed output is open for reading only, and
@@ -21,6 +21,7 @@ mod report;
 mod system;
 mod text;
 mod trace;
+mod week;
 mod words;
 
 use crate::arguments::{Asked, Command};
@@ -49,6 +50,7 @@ fn run(asked: &Asked) -> Status {
         Asked::Run(Command::Replay, options) => replay::run(options, &mut output),
         Asked::Run(Command::Frame, options) => frame::run(options, &mut output),
         Asked::Run(Command::Report, options) => report::run(options, &mut output),
+        Asked::Run(Command::Week, options) => week::run(options, &mut output),
     };
     done.unwrap_or_else(|failed| {
         output::complain(&failed.to_string());

@@ -14,6 +14,7 @@ offers() {
     [ "${COMPREPLY[*]}" = "$offered" ] || fault "completion of '$*'" "it offers '${COMPREPLY[*]}', not '$offered'"
 }
 offers 'replay report' re
+offers 'week' w
 offers '--help --version' --
 offers '--words' replay --w
 offers '--json' frame --j
@@ -21,6 +22,7 @@ offers '' report --w
 offers '--profile' report --p
 offers '1 2' report --profile ''
 offers '' frame --p
+offers '--json' week --j
 offers 'seven.trace' replay --words seven.t
 offers 'good.report' report good
 offers '' play s

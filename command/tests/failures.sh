@@ -12,6 +12,8 @@ run ./lumbixet replay <folder
 ends 'a folder as standard input' 3 empty 'lumbixet: standard input: Is a directory'
 run ./lumbixet report folder
 ends 'a folder as a report' 3 empty 'lumbixet: folder: Is a directory'
+run ./lumbixet week folder
+ends 'a folder as a week' 3 empty 'lumbixet: folder: Is a directory'
 run ./lumbixet frame folder
 ends 'a folder as a frame' 3 empty 'lumbixet: folder: Is a directory'
 run ./lumbixet replay <&-
@@ -46,6 +48,7 @@ full replay --words seven.trace
 full replay --json long.trace
 full frame 1f
 full report good.report
+full week short.week
 full --help
 full --version
 status=0
@@ -85,7 +88,7 @@ wrong_use() {
     ends "wrong use: $*" 2 empty "lumbixet: $said
 Try 'lumbixet $help--help'."
 }
-wrong_use 'a command is missing: replay, frame or report' ''
+wrong_use 'a command is missing: replay, frame, report or week' ''
 wrong_use "unknown command 'play'" '' play
 wrong_use 'unknown option --words' '' --words
 wrong_use 'unknown option --word' 'replay ' replay --word seven.trace
@@ -102,25 +105,26 @@ wrong_use '--picture needs the name of a file to write' 'replay ' replay --pictu
 wrong_use '--picture needs the name of a file to write' 'replay ' replay --picture= seven.trace
 wrong_use '--picture is given twice' 'replay ' replay --picture a --picture b seven.trace
 wrong_use '--picture draws one hearing: give one FILE' 'replay ' replay --picture a seven.trace odd.trace
+wrong_use 'unknown option --words' 'week ' week --words short.week
 wrong_use 'standard input can be read only once' 'replay ' replay - -
 wrong_use 'the bytes of a frame are missing: HEX, a FILE, or - for standard input' 'frame ' frame
 wrong_use 'a FILE is missing, or - for standard input' 'report ' report
 
 # ---- help and version
 sed -n 's/^#define LUMBIXET_VERSION_TEXT "\(.*\)"$/lumbixet \1/p' "$top/include/lumbixet.h" >version
-for words in --version 'replay --version' 'frame --version' 'report --version'; do
+for words in --version 'replay --version' 'frame --version' 'report --version' 'week --version'; do
     # shellcheck disable=SC2086
     run ./lumbixet $words
     ends "$words" 0 version
 done
-for name in replay frame report; do
+for name in replay frame report week; do
     run ./lumbixet "$name" --help
     holds "$name --help" "lumbixet $name [OPTION..]" out
     cp out help
     ends "$name --help" 0 help
 done
 run ./lumbixet --help
-for name in replay frame report; do holds '--help' "  $name " out; done
+for name in replay frame report week; do holds '--help' "  $name " out; done
 
 # ---- colours and progress, on a terminal only
 red=$'\e[31m'

@@ -4,11 +4,12 @@
 use crate::random::Random;
 use crate::tally::Tally;
 use crate::{compare_codec, compare_counts, compare_forms, compare_limits, compare_profiles};
-use crate::{compare_receiver, compare_report, compare_tracker};
+use crate::{compare_receiver, compare_report, compare_totals, compare_tracker};
 
 /// Each round takes a made-up record through all calls, goes on with a grown one, and reads and writes frames and a report.
 /// Some rounds take a report through all its longer forms, some through the counts of entries at the limit, some through what
-/// the profiles tell apart, and some take the tracker's records through its calls.
+/// the profiles tell apart, some take the tracker's records through its calls,
+/// and some a week's totals.
 pub fn run(count: usize) -> Result<(), String> {
     let mut random = Random::from_seed(2);
     let mut tally = Tally::default();
@@ -33,6 +34,7 @@ pub fn run(count: usize) -> Result<(), String> {
         if round % 4 == 0 {
             compare_tracker::made_up(&mut random, &mut tally)?;
             compare_tracker::grown(&mut random, &mut tally)?;
+            compare_totals::round(&mut random, &mut tally)?;
         }
         if (round + 1) % 1000 == 0 {
             println!("{} of {count} rounds agree", round + 1);

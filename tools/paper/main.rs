@@ -28,6 +28,8 @@ mod compare_replay;
 #[cfg(archive)]
 mod compare_report;
 #[cfg(archive)]
+mod compare_totals;
+#[cfg(archive)]
 mod compare_tracker;
 mod compare_week;
 mod example_lines;

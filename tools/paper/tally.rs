@@ -7,7 +7,7 @@ use std::collections::BTreeMap;
 use std::fmt::Debug;
 
 /// Each call with every result that it can give.
-const CAN_GIVE: [(&str, &[u64]); 33] = [
+const CAN_GIVE: [(&str, &[u64]); 37] = [
     ("open", &[0, 5, 4]),
     ("packet", &[0, 1, 5, 6, 7]),
     ("timer", &[0, 1, 5]),
@@ -41,10 +41,14 @@ const CAN_GIVE: [(&str, &[u64]); 33] = [
     ("tracker_arrived", &[0, 1, 5, 17]),
     ("tracker_ended_early", &[0, 1, 5, 17]),
     ("tracker_report", &[0, 1, 5, 9]),
+    ("totals_open", &[0]),
+    ("totals_add", &[0, 2, 10, 11, 12, 13, 15, 20]),
+    ("totals_piece", &[0]),
+    ("totals_page", &[0, 9]),
 ];
 
 /// What must have happened in accepted and refused calls beyond their results.
-const MOMENTS: [&str; 112] = [
+const MOMENTS: [&str; 121] = [
     "1 for nothing but a floor above L",
     "1 for nothing but a floor while nothing was received",
     "7 though it was received and lies within 1,024 of L",
@@ -157,6 +161,15 @@ const MOMENTS: [&str; 112] = [
     "9 for one byte less than the whole",
     "an age that stopped at the largest",
     "an age of 0 for an object that arrived",
+    "a sum that reaches 2^64 - 1",
+    "a sum that becomes full",
+    "a sum that was full",
+    "20 for a report of 8,193 bytes",
+    "another number for a report of 8,192 bytes",
+    "a piece that ends in a length",
+    "a piece that ends in a report",
+    "a piece that ends while a long report is skipped",
+    "a page of 2 alone",
 ];
 
 /// How often each call gave each result, each receiver call left each cause, and each moment came.

@@ -17,6 +17,8 @@ pub const LONGEST: u64 = 8192;
 const MOST: u128 = u64::MAX as u128;
 /// "0 received, 1 late, 2 not received, 3 partial"
 const STATUSES: [&str; 4] = ["received", "late", "not received", "partial"];
+/// How many sums a host sees.
+pub const PLACES: usize = 29;
 
 /// All sums are exact; only the page stops at 2^64 - 1.
 #[derive(Default)]
@@ -31,12 +33,12 @@ pub struct Week {
 }
 
 impl Week {
-    fn refuse(&mut self, number: u64) {
+    pub fn refuse(&mut self, number: u64) {
         *self.refused.entry(number).or_default() += 1;
     }
 
     /// One report, of at most 8,192 bytes.
-    fn add(&mut self, report: &[u8]) {
+    pub fn add(&mut self, report: &[u8]) {
         let (header, start) = match read_report(PROFILE, report) {
             Ok(read) => read,
             Err(number) => return self.refuse(number),
@@ -50,6 +52,18 @@ impl Week {
             let entry = read_entry(PROFILE, &report[start..], index).expect("an accepted report has good entries");
             self.statuses[entry.status as usize] += 1;
         }
+    }
+
+    /// Every sum in its place: reports accepted, reports refused with 1 to 20, the four totals, the entries by status.
+    pub fn places(&self) -> [u128; PLACES] {
+        let mut places = [0; PLACES];
+        places[0] = self.accepted;
+        for (number, count) in &self.refused {
+            places[*number as usize] = *count;
+        }
+        places[21..25].copy_from_slice(&[self.total, self.received, self.late, self.lost]);
+        places[25..].copy_from_slice(&self.statuses);
+        places
     }
 
     /// "It prints reports accepted, reports refused for each number that occurs, rising, the four summary totals and the

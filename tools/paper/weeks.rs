@@ -27,7 +27,7 @@ const WEEKS: [&str; 13] = [
 /// Lengths at the edges; of those above the buffer's only so many bytes follow.
 const EDGES: [u64; 9] = [0, 1, 14, 15, 8191, LONGEST, LONGEST + 1, 40_000, u32::MAX as u64];
 
-fn with_length(bytes: &mut Vec<u8>, report: &[u8]) {
+pub fn with_length(bytes: &mut Vec<u8>, report: &[u8]) {
     bytes.extend_from_slice(&(report.len() as u32).to_be_bytes());
     bytes.extend_from_slice(report);
 }
@@ -79,7 +79,7 @@ fn written(header: &Header, records: &[u8]) -> Vec<u8> {
     buffer[..length].to_vec()
 }
 
-fn report(random: &mut Random, largest: u64) -> Vec<u8> {
+pub fn report(random: &mut Random, largest: u64) -> Vec<u8> {
     let count = random.one_of(&[0, 0, 1, 2, 3, 5, 10, 50, 51, 64, 200]);
     let records = records(random, count);
     written(&header(random, largest), &records)
@@ -100,7 +100,7 @@ fn long_list(random: &mut Random) -> Vec<u8> {
 }
 
 /// One fault, anywhere: a byte changed, the end cut off, bytes behind, the total wrong, an entry's byte wrong.
-fn damaged(random: &mut Random) -> Vec<u8> {
+pub fn damaged(random: &mut Random) -> Vec<u8> {
     let mut bytes = report(random, 1000);
     let place = random.below(bytes.len() as u64) as usize;
     match random.below(6) {

@@ -37,6 +37,7 @@ mod receiver;
 mod refusal;
 mod report;
 mod tracker;
+mod week;
 
 pub use frames::{read_number, write_number, Ack, Frequency, Immediate};
 pub use marks::{Counts, Mark, Totals};
@@ -45,6 +46,7 @@ pub use receiver::{Heard, Packet, Receiver};
 pub use refusal::{Cause, Refusal};
 pub use report::{Entries, Entry, Header, Report, Status, Written};
 pub use tracker::{Made, Tracker, TRACKED};
+pub use week::{Sum, Week, PAGE_ROOM, PIECE_LEAST};
 
 /// Microseconds: times, the minimum delay, and the delay in force.
 #[derive(Clone, Copy, Debug, Default, PartialEq, Eq, PartialOrd, Ord, Hash)]

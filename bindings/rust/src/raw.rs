@@ -204,6 +204,43 @@ pub struct Tracker {
     pub objects: [u64; 256],
 }
 
+/// `lumbixet_totals`: the totals of a week's reports. Every bit pattern of it has a meaning.
+#[repr(C)]
+#[derive(Clone, Copy, Debug, PartialEq, Eq)]
+#[allow(missing_docs)]
+pub struct WeekTotals {
+    pub sums: [u64; 29],
+    pub full: [u64; 29],
+    pub skip: u64,
+}
+
+/// `lumbixet_added`: the number that a report is given, and the totals with it.
+#[repr(C)]
+#[derive(Clone, Copy, Debug, PartialEq, Eq)]
+#[allow(missing_docs)]
+pub struct Added {
+    pub result: u64,
+    pub next: WeekTotals,
+}
+
+/// `lumbixet_taken`: the totals with the reports of a piece, and how many bytes of it were taken.
+#[repr(C)]
+#[derive(Clone, Copy, Debug, PartialEq, Eq)]
+#[allow(missing_docs)]
+pub struct Taken {
+    pub next: WeekTotals,
+    pub used: u64,
+}
+
+/// `lumbixet_page`: the length of the page.
+#[repr(C)]
+#[derive(Clone, Copy, Debug, Default, PartialEq, Eq)]
+#[allow(missing_docs)]
+pub struct Page {
+    pub result: u64,
+    pub length: u64,
+}
+
 #[link(name = "lumbixet", kind = "static")]
 #[allow(missing_docs)]
 extern "C" {
@@ -253,4 +290,8 @@ extern "C" {
         entries: *mut u8,
         length: usize,
     ) -> Report;
+    pub fn lumbixet_totals_open() -> WeekTotals;
+    pub fn lumbixet_totals_add(totals: WeekTotals, report: *const u8, length: usize) -> Added;
+    pub fn lumbixet_totals_piece(totals: WeekTotals, piece: *const u8, length: usize) -> Taken;
+    pub fn lumbixet_totals_page(totals: WeekTotals, left: usize, buffer: *mut u8, length: usize) -> Page;
 }

@@ -42,6 +42,8 @@ pub enum Refusal {
     OtherProfile,
     /// 19: the confirmed number is above the largest acknowledged, or none is acknowledged.
     NotAcknowledged,
+    /// 20: of a week's totals: the report is longer than 8,192 bytes.
+    TooLong,
     /// A number that this version does not name; the archive that goes with it gives none.
     Unknown(u64),
 }
@@ -49,7 +51,7 @@ pub enum Refusal {
 use Refusal::*;
 
 /// Each with its number and its words.
-const REFUSALS: [(u64, Refusal, &str); 18] = [
+const REFUSALS: [(u64, Refusal, &str); 19] = [
     (1, Inconsistent, "the record is not consistent"),
     (2, Ends, "the bytes end inside a field"),
     (3, OtherType, "the frame type is another one"),
@@ -68,6 +70,7 @@ const REFUSALS: [(u64, Refusal, &str); 18] = [
     (17, Outside, "the object is none of those tracked"),
     (18, OtherProfile, "the profile is another one"),
     (19, NotAcknowledged, "this number was not acknowledged yet"),
+    (20, TooLong, "the report is too long"),
 ];
 
 impl Refusal {

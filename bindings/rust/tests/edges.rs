@@ -48,7 +48,7 @@ fn numbers_and_rest() {
 /// Each number has a name, and the name its number; words and numbers are those of the C header.
 #[test]
 fn names_are_the_headers() {
-    for number in (1..16).chain(17..20) {
+    for number in (1..16).chain(17..21) {
         let refusal = Refusal::from_number(number);
         assert_eq!(refusal.number(), number);
         assert!(HEADERS.contains(&format!("\"{refusal}\"")), "the header has other words than: {refusal}");

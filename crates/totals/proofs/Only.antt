@@ -7,6 +7,8 @@ use Rattle.totals.proofs.Totals.add.Reads as add
 use Rattle.totals.proofs.Totals.add.Kinds as add-kinds
 use Rattle.totals.proofs.Standing.start.Reads as start
 use Rattle.totals.proofs.Standing.start.Kinds as start-kinds
+use Rattle.totals.proofs.Standing.add.Reads as report
+use Rattle.totals.proofs.Standing.add.Kinds as report-kinds
 use Rattle.totals.proofs.Standing.piece.Reads as piece
 use Rattle.totals.proofs.Standing.piece.Kinds as piece-kinds
 use Rattle.totals.proofs.files.keep_rest.Reads as keep-rest
@@ -17,6 +19,9 @@ add-one κs given x y s t p q = p ∙ sym q
 
 pub start-one : OneAnswer 0 start-kinds.ps start-kinds.r start.Post
 start-one κs given x y s t p q = p ∙ sym q
+
+pub report-one : OneAnswer 1 report-kinds.ps report-kinds.r report.Post
+report-one κs given x y s t p q = p ∙ sym q
 
 pub piece-one : OneAnswer 1 piece-kinds.ps piece-kinds.r piece.Post
 piece-one κs given x y s t p q = p .0 ∙ sym (q .0)

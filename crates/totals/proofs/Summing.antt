@@ -114,21 +114,24 @@ module _ (r : List ℕ) where
       go h true e = taken (number-read h ∙ eqb-true (readReport One r .refusal) 0 e) (brings-accepted h e)
       go h false e = refused (rw (number-read h) e) (brings-refused h e ∙ ap refusedBrings (sym (number-read h)))
 
+  number-more : Read → brings r .number ≡ numberOf r
+  unfolding refusedBrings acceptedBrings
+  number-more (refused e b) = ap (λ (x : Brought). x .number) b
+  number-more (taken e b) = ap (λ (x : Brought). x .number) b ∙ sym e
+
+  pub brings-number : brings r .number ≡ numberOf r
+  brings-number = number-more reads
+
   module _ (place : ℕ) (l : place < places) where
     part-more : Read → tooLong < place → summed (partIn place) (accepted (r ∷ [])) ≡ share (brings r) place
     part-more (refused e b) h = accepted-none (partIn place) e ∙ sym (rw b (share-refused place (numberOf r) h l))
     part-more (taken e b) h = accepted-one (partIn place) (eq-eqb (numberOf r) 0 e) ∙ sym (rw b (share-accepted place r h l))
 
-    number-more : Read → brings r .number ≡ numberOf r
-    unfolding refusedBrings acceptedBrings
-    number-more (refused e b) = ap (λ (x : Brought). x .number) b
-    number-more (taken e b) = ap (λ (x : Brought). x .number) b ∙ sym e
-
     pub sum-more : (rs : List (List ℕ)) → sumAt place (rs ++ (r ∷ [])) ≡ sumAt place rs + share (brings r) place
     unfolding sumAt
     sum-more rs =
         elim (decLe place tooLong) [
-          | yes h ↦ rw (le-leb place tooLong h, share-number place (brings r) h, number-more reads) (many-more r place rs)
+          | yes h ↦ rw (le-leb place tooLong h, share-number place (brings r) h, brings-number) (many-more r place rs)
           | no h ↦ let g = lt-of-not-le h in rw (lt-leb place tooLong g) (summed-more r (partIn place) rs ∙ ap (λ (n : ℕ). summed (partIn place) (accepted rs) + n) (part-more reads g))
         ]
 

@@ -10,7 +10,8 @@ use Rattle.wire.specs.declared.Fixed.the-variants.{Value, Ends}
 use Rattle.totals.specs.declared.Totals.{Totals}
 use Rattle.totals.specs.declared.Standing.{Standing}
 use Rattle.totals.specs.declared.Taken.{Taken}
-use Rattle.totals.specs.Totals.{longest, tooLong, places}
+use Rattle.totals.specs.declared.Added.{Added}
+use Rattle.totals.specs.Totals.{longest, tooLong, numberOf, places}
 use Rattle.totals.specs.Adding.{refusedBrings, with, added}
 
 -- ---- the whole file
@@ -94,6 +95,10 @@ takenFrom (suc n) st s at =
 -- all that is whole at the start of s; each step takes a byte or more
 abbrev pub taken : Standing → List ℕ → Taken
 taken st s = takenFrom (length s) st s 0
+
+-- a report that is handed over by itself: the number that it is given, and the totals with it
+unfoldable pub reported : Standing → List ℕ → Added
+reported st r = record { result = numberOf r; next = record { totals = added (st .totals) r; skip = st .skip } }
 
 -- what stands from used up to end goes to the start of the buffer
 abbrev pub moved : List ℕ → ℕ → ℕ → List ℕ

@@ -4,15 +4,17 @@ ghost use Prim.Native.Nat.{_<_, _≤_};
 ghost use lib.ListN.{length};
 ghost use Rattle.totals.specs.Totals.{places, statusCount};
 ghost use Rattle.totals.specs.Adding.{refusedBrings, brings, share, with, added};
-ghost use Rattle.totals.specs.Files.{withLong};
+ghost use Rattle.totals.specs.Files.{withLong, reported};
 use crate::AT_ENTRIES;
 use crate::AT_LATE;
 use crate::AT_LOST;
 use crate::AT_RECEIVED;
 use crate::AT_TOTAL;
+use crate::Added;
 use crate::Brought;
 use crate::LONGEST;
 use crate::PLACES;
+use crate::Standing;
 use crate::TOO_LONG;
 use crate::Totals;
 use entries::RECORD;
@@ -141,5 +143,24 @@ impl Totals {
     {
         let brought = Brought::refused(TOO_LONG);
         self.with(brought)
+    }
+}
+
+impl Standing {
+    // One report more that is handed over by itself, and the number that it is given; what a file has still to be skipped stays.
+    pub fn add(self, report: &[u8]) -> Added
+        ensures { λ r. ⌜ r ≡ reported self (now (report .entry)) ⌝ }
+    {
+        let brought = Brought::by(report);
+        let before = self.totals;
+        let totals = before.with(brought);
+        let next = Standing {
+            totals,
+            skip: self.skip,
+        };
+        Added {
+            result: brought.number,
+            next,
+        }
     }
 }

@@ -28,6 +28,7 @@ const LONGEST: usize = 8192;
 const TOO_LONG: u64 = 20;
 
 // The sums over the reports so far, by place.
+#[repr(C)]
 pub struct Totals {
     // Each sum, or 2^64 - 1 where it would pass that.
     pub sums: [u64; PLACES],
@@ -36,6 +37,7 @@ pub struct Totals {
 }
 
 // Where a file stands between two pieces of it.
+#[repr(C)]
 pub struct Standing {
     pub totals: Totals,
     // How many bytes of a report that is too long are still to be skipped.
@@ -43,10 +45,19 @@ pub struct Standing {
 }
 
 // What the reports of a piece come to.
+#[repr(C)]
 pub struct Taken {
     pub next: Standing,
     // How many bytes of the piece were taken; what follows them is no whole report yet.
     pub used: usize,
+}
+
+// What one report that was handed over by itself comes to.
+#[repr(C)]
+pub struct Added {
+    // The number that the report was given, 0 for accepted.
+    pub result: u64,
+    pub next: Standing,
 }
 
 // What one report brings: its number, 0 for accepted, and only then its totals and how many of its entries have each status.
