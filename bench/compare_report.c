@@ -28,6 +28,9 @@ static void compare_read_report(uint64_t given, const uint8_t *bytes, size_t len
     lumbixet_entries c = archive.find_entries(profile, bytes, length);
     lumbixet_entries d = plain.find_entries(profile, bytes, length);
     check(memcmp(&c, &d, sizeof c) == 0, "find_entries");
+    lumbixet_newest e = archive.newest_lost(profile, bytes, length);
+    lumbixet_newest f = plain.newest_lost(profile, bytes, length);
+    check(memcmp(&e, &f, sizeof e) == 0, "newest_lost");
     compare_read_entry(profile, bytes + c.start, c.length, below(LUMBIXET_ENTRIES + 2));
 }
 

@@ -3,6 +3,7 @@
 
 #include <stdio.h>
 #include <stdlib.h>
+#include <string.h>
 
 #include "plain.h"
 
@@ -162,8 +163,21 @@ static void make_header(lumbixet_header *h, uint64_t *state)
     h->total = h->received + h->late + h->lost;
 }
 
+/* Which entry of a report is lost, and no other: one at a place, none, or those that were drawn so. */
+enum { AS_DRAWN = -2, NOWHERE = -1 };
+
+/* A record that is lost, or else that is not. */
+static void lose(uint8_t *record, bool lost)
+{
+    if (lost) {
+        record[8] = LUMBIXET_NOT_RECEIVED;
+        memset(record + 12, 0, 4);
+    } else if (record[8] == LUMBIXET_NOT_RECEIVED)
+        record[8] = LUMBIXET_RECEIVED;
+}
+
 /* In profile 2 each group has five objects, and the next one begins at a smaller object again. */
-static void make_reports(struct reports *made, uint64_t profile, size_t entries)
+static void make_reports(struct reports *made, uint64_t profile, size_t entries, int lost)
 {
     uint64_t state = 4;
     size_t record = profile == LUMBIXET_PROFILE_2 ? 24 : 16;
@@ -182,6 +196,8 @@ static void make_reports(struct reports *made, uint64_t profile, size_t entries)
                 place[7] = (uint8_t)(i / 5);
             }
             make_record(place + record - 16, object, &state);
+            if (lost != AS_DRAWN)
+                lose(place + record - 16, lost == (int)i);
         }
         lumbixet_written written =
             plain_write_report(profile, made->bytes[v], REPORT_ROOM, *h, made->records[v], made->size, LUMBIXET_ENTRIES);
@@ -204,8 +220,12 @@ void make_inputs(void)
         make_traffic(&traffic[pattern][0], pattern, 1);
         make_traffic(&traffic[pattern][1], pattern, 3);
     }
-    make_reports(&reports[OLD_LIST], LUMBIXET_PROFILE_1, LUMBIXET_OLD_ENTRIES);
-    make_reports(&reports[LONG_LIST], LUMBIXET_PROFILE_1, LUMBIXET_ENTRIES);
-    make_reports(&reports[OLD_GROUPS], LUMBIXET_PROFILE_2, LUMBIXET_OLD_ENTRIES);
-    make_reports(&reports[LONG_GROUPS], LUMBIXET_PROFILE_2, LUMBIXET_ENTRIES);
+    for (int groups = 0; groups < 2; groups++) {
+        uint64_t profile = groups ? LUMBIXET_PROFILE_2 : LUMBIXET_PROFILE_1;
+        make_reports(&reports[groups ? OLD_GROUPS : OLD_LIST], profile, LUMBIXET_OLD_ENTRIES, AS_DRAWN);
+        make_reports(&reports[groups ? LONG_GROUPS : LONG_LIST], profile, LUMBIXET_ENTRIES, AS_DRAWN);
+        make_reports(&reports[groups ? LAST_LOST_GROUPS : LAST_LOST], profile, LUMBIXET_ENTRIES, LUMBIXET_ENTRIES - 1);
+        make_reports(&reports[groups ? MIDDLE_LOST_GROUPS : MIDDLE_LOST], profile, LUMBIXET_ENTRIES, LUMBIXET_ENTRIES / 2);
+        make_reports(&reports[groups ? NONE_LOST_GROUPS : NONE_LOST], profile, LUMBIXET_ENTRIES, NOWHERE);
+    }
 }

@@ -54,8 +54,12 @@ struct reports {
  * confirmed before the next one. */
 enum { ONE_RANGE, EIGHT_RANGES, SIXTY_FOUR_RANGES, COUNTED, SITTINGS, CONFIRMED, ACK_KINDS };
 enum { IN_ORDER, LOSS, SWAPPED, PATTERNS };
-/* So many entries each: as many as old receivers take, and as many as there may be; then the same in profile 2. */
-enum { OLD_LIST, LONG_LIST, OLD_GROUPS, LONG_GROUPS, REPORT_KINDS };
+/* So many entries each: as many as old receivers take, and as many as there may be; then the same in profile 2. Then as many as
+ * there may be where the last one alone was not received, the middle one alone, or none; and the same in profile 2. */
+enum {
+    OLD_LIST, LONG_LIST, OLD_GROUPS, LONG_GROUPS,
+    LAST_LOST, MIDDLE_LOST, NONE_LOST, LAST_LOST_GROUPS, MIDDLE_LOST_GROUPS, NONE_LOST_GROUPS, REPORT_KINDS
+};
 
 extern struct numbers numbers;
 extern struct acks acks[ACK_KINDS];

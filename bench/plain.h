@@ -31,6 +31,7 @@ lumbixet_wrote_lent plain_write_lent(lumbixet_receiver *receiver, uint64_t time_
 lumbixet_report plain_read_report(uint64_t profile, const uint8_t *bytes, size_t length);
 lumbixet_entries plain_find_entries(uint64_t profile, const uint8_t *bytes, size_t length);
 lumbixet_entry plain_read_entry(uint64_t profile, const uint8_t *entries, size_t length, size_t index);
+lumbixet_newest plain_newest_lost(uint64_t profile, const uint8_t *bytes, size_t length);
 lumbixet_written plain_write_report(uint64_t profile, uint8_t *buffer, size_t length, lumbixet_header header,
                                     const uint8_t *records, size_t records_length, uint64_t maximum);
 

@@ -120,6 +120,44 @@ static uint64_t judge_report(uint64_t profile, struct reader *reader, lumbixet_h
     return left > taken ? LUMBIXET_BYTES_BEHIND : LUMBIXET_ACCEPTED;
 }
 
+/* Whether a record comes below the one after it, by group and then object. */
+static inline bool below_next(uint64_t group, uint64_t object, uint64_t next_group, uint64_t next_object)
+{
+    return group < next_group || (group == next_group && object < next_object);
+}
+
+/* From the last record down to the first one found; the order with the one before that is not looked at. */
+static lumbixet_newest search(uint64_t profile, const uint8_t *records, size_t count)
+{
+    uint64_t next_group = UINT64_MAX, next_object = 0; /* of the record after; none has such a group */
+    size_t size = record_size(profile);
+    for (const uint8_t *at = records + count * size; at > records; at -= size) {
+        uint64_t group = size == 24 ? load8(at - 24) : 0, object = load8(at - 16);
+        if (group > LARGEST || !entry_good(at - 16) || !below_next(group, object, next_group, next_object))
+            return (lumbixet_newest){.result = LUMBIXET_ENTRY};
+        if (at[-8] == LUMBIXET_NOT_RECEIVED)
+            return (lumbixet_newest){LUMBIXET_ACCEPTED, 1, group, object};
+        next_group = group;
+        next_object = object;
+    }
+    return (lumbixet_newest){0};
+}
+
+lumbixet_newest plain_newest_lost(uint64_t profile, const uint8_t *bytes, size_t length)
+{
+    if (!known_profile(profile))
+        return (lumbixet_newest){.result = LUMBIXET_OTHER_PROFILE};
+    struct reader reader = {bytes, length, 0};
+    lumbixet_header header = {0};
+    uint64_t result = take_header(profile, &reader, &header);
+    if (result)
+        return (lumbixet_newest){.result = result};
+    size_t left = length - reader.at, taken = header.entries * record_size(profile);
+    if (left != taken)
+        return (lumbixet_newest){.result = left < taken ? LUMBIXET_ENDS : LUMBIXET_BYTES_BEHIND};
+    return search(profile, bytes + reader.at, header.entries);
+}
+
 lumbixet_report plain_read_report(uint64_t profile, const uint8_t *bytes, size_t length)
 {
     struct reader reader = {bytes, length, 0};

@@ -125,6 +125,21 @@ double read_reports(const struct side *side, int kind, int round)
     return (double)passed / CALLS;
 }
 
+double find_newest_lost(const struct side *side, int kind, int round)
+{
+    (void)round;
+    const struct reports *r = &reports[kind];
+    uint64_t sum = 0;
+    uint64_t from = now();
+    for (size_t i = 0; i < CALLS; i++) {
+        lumbixet_newest newest = side->newest_lost(r->profile, r->bytes[i % VARIANTS], r->lengths[i % VARIANTS]);
+        sum += newest.found + newest.object;
+    }
+    uint64_t passed = since(from);
+    sink += sum;
+    return (double)passed / CALLS;
+}
+
 double write_reports(const struct side *side, int kind, int round)
 {
     (void)round;

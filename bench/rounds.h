@@ -16,6 +16,7 @@ double write_acks(const struct side *side, int kind, int round);
 double take_packets(const struct side *side, int kind, int round);
 double look_at_timer(const struct side *side, int kind, int round);
 double read_reports(const struct side *side, int kind, int round);
+double find_newest_lost(const struct side *side, int kind, int round);
 double write_reports(const struct side *side, int kind, int round);
 double arrive_objects(const struct side *side, int kind, int round);
 double report_objects(const struct side *side, int kind, int round);

@@ -25,6 +25,7 @@ struct side {
     lumbixet_report (*read_report)(uint64_t, const uint8_t *, size_t);
     lumbixet_entries (*find_entries)(uint64_t, const uint8_t *, size_t);
     lumbixet_entry (*read_entry)(uint64_t, const uint8_t *, size_t, size_t);
+    lumbixet_newest (*newest_lost)(uint64_t, const uint8_t *, size_t);
     lumbixet_written (*write_report)(uint64_t, uint8_t *, size_t, lumbixet_header, const uint8_t *, size_t, uint64_t);
     uint64_t (*tracker_open)(lumbixet_tracker *, uint64_t, uint64_t);
     uint64_t (*tracker_arrived)(lumbixet_tracker *, uint64_t, uint64_t, uint64_t);

@@ -76,6 +76,14 @@ typedef struct {
     uint64_t kept;   /* how many of the last records were written */
 } lumbixet_written;
 
+/* The newest object of a report that was not received. */
+typedef struct {
+    uint64_t result; /* 0, 18, 2, 15, 10, 11, 13 or 12 */
+    uint64_t found;  /* 1 where there is one, and else 0, and so are group and object */
+    uint64_t group;  /* its group; 0 in profile 1 */
+    uint64_t object; /* its number */
+} lumbixet_newest;
+
 /* Reads a whole report: every number in its shortest form (15), and no byte may follow it. Equal reports have equal bytes. */
 lumbixet_report lumbixet_read_report(uint64_t profile, const uint8_t *bytes, size_t length);
 
@@ -84,6 +92,10 @@ lumbixet_entries lumbixet_find_entries(uint64_t profile, const uint8_t *bytes, s
 
 /* Reads entry `index` of the part that lumbixet_find_entries named: pass bytes + start and length. */
 lumbixet_entry lumbixet_read_entry(uint64_t profile, const uint8_t *entries, size_t length, size_t index);
+
+/* Finds the last entry of a report of profile 1 or 2 that is marked not received. It searches from the end and stops there: a bad
+ * entry gives 12 only where it was read, and bytes behind the report give 13 first. lumbixet_read_report judges all of a report. */
+lumbixet_newest lumbixet_newest_lost(uint64_t profile, const uint8_t *bytes, size_t length);
 
 /* Writes a report at the start of the buffer: header, then the longest run of last records, at most `maximum`, that fits.
  * `records` are 0 to 256 records of 16 bytes, rising by object: object number (8, high byte first), status, three zeros,

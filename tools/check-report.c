@@ -6,6 +6,7 @@ SIZE(lumbixet_report, 208);
 SIZE(lumbixet_entries, 16);
 SIZE(lumbixet_entry, 40);
 SIZE(lumbixet_written, 24);
+SIZE(lumbixet_newest, 32);
 
 /* No byte between two fields: answers can be compared by their bytes. */
 SIZE(lumbixet_header, (9 + 8 + 8) * 8);
@@ -18,6 +19,8 @@ AT(lumbixet_header, entries, 192);
 AT(lumbixet_report, header, 8);
 AT(lumbixet_entry, group, 8);
 AT(lumbixet_entry, object, 16);
+AT(lumbixet_newest, found, 8);
+AT(lumbixet_newest, group, 16);
 
 static void reports(void)
 {
@@ -131,7 +134,79 @@ static void other_profiles(void)
         SAME(lumbixet_find_entries(others[i], bytes, sizeof bytes).length, 0);
         SAME(lumbixet_read_entry(others[i], bytes, 0, 0).result, LUMBIXET_OTHER_PROFILE);
         SAME(lumbixet_write_report(others[i], bytes, 0, header, bytes, 1, UINT64_MAX).result, LUMBIXET_OTHER_PROFILE);
+        SAME(lumbixet_newest_lost(others[i], bytes, 0).result, LUMBIXET_OTHER_PROFILE);
     }
+}
+
+/* The answer's four numbers: a refusal has no object, and "none" is no refusal. */
+static void newest_is(int line, uint64_t profile, const uint8_t *bytes, size_t length, lumbixet_newest expected)
+{
+    lumbixet_newest newest = lumbixet_newest_lost(profile, bytes, length);
+    same("newest.result", newest.result, expected.result, __FILE__, line);
+    same("newest.found", newest.found, expected.found, __FILE__, line);
+    same("newest.group", newest.group, expected.group, __FILE__, line);
+    same("newest.object", newest.object, expected.object, __FILE__, line);
+}
+
+#define NEWEST(...) newest_is(__LINE__, __VA_ARGS__)
+
+/* Four objects, of which the second and the third did not come. Each change is taken back before the next. */
+static void newest_lost(void)
+{
+    enum { ONE = LUMBIXET_PROFILE_1, START = 9, FIRST = START, THIRD = START + 32, LAST = START + 48, END = START + 64 };
+    uint8_t bytes[END + 1] = {
+        1, 2, 3, 1, 0, 2, 0, 0, 4,
+        0, 0, 0, 0, 0, 0, 1, 7, 0, 0, 0, 0, 0, 0, 0, 9,
+        0, 0, 0, 0, 0, 0, 1, 8, 2, 0, 0, 0, 0, 0, 0, 0,
+        0, 0, 0, 0, 0, 0, 1, 9, 2, 0, 0, 0, 0, 0, 0, 0,
+        0, 0, 0, 0, 0, 0, 1, 10, 3, 0, 0, 0, 0, 0, 0, 9,
+    };
+    const lumbixet_newest none = {0}, third = {.found = 1, .object = 265}, broken = {.result = LUMBIXET_ENTRY};
+    NEWEST(ONE, bytes, END, third);
+
+    bytes[FIRST + 8] = 4; /* not read, and so is its order */
+    NEWEST(ONE, bytes, END, third);
+    SAME(lumbixet_read_report(ONE, bytes, END).result, LUMBIXET_ENTRY);
+    bytes[FIRST + 8] = 0;
+    bytes[FIRST + 16 + 7] = 11;
+    NEWEST(ONE, bytes, END, third);
+    SAME(lumbixet_read_report(ONE, bytes, END).result, LUMBIXET_ENTRY);
+    bytes[FIRST + 16 + 7] = 8;
+
+    bytes[LAST + 9] = 1; /* a bad one that is read, the found one itself, and the order between the two */
+    NEWEST(ONE, bytes, END, broken);
+    NEWEST(ONE, bytes, END + 1, (lumbixet_newest){.result = LUMBIXET_BYTES_BEHIND});
+    SAME(lumbixet_read_report(ONE, bytes, END + 1).result, LUMBIXET_ENTRY);
+    NEWEST(ONE, bytes, END - 1, (lumbixet_newest){.result = LUMBIXET_ENDS});
+    bytes[LAST + 9] = 0;
+    bytes[THIRD + 15] = 1;
+    NEWEST(ONE, bytes, END, broken);
+    bytes[THIRD + 15] = 0;
+    bytes[LAST + 7] = 9;
+    NEWEST(ONE, bytes, END, broken);
+    bytes[LAST + 7] = 10;
+
+    bytes[THIRD + 8] = LUMBIXET_PARTIAL; /* then the second, then none, then the first */
+    NEWEST(ONE, bytes, END, (lumbixet_newest){.found = 1, .object = 264});
+    bytes[FIRST + 16 + 8] = LUMBIXET_LATE;
+    NEWEST(ONE, bytes, END, none);
+    bytes[FIRST + 8] = LUMBIXET_NOT_RECEIVED;
+    NEWEST(ONE, bytes, END, broken);
+    bytes[FIRST + 15] = 0;
+    NEWEST(ONE, bytes, END, (lumbixet_newest){.found = 1, .object = 263});
+    NEWEST(ONE, (const uint8_t[]){0, 0, 0, 0, 0, 0, 0, 0, 0}, 9, none);
+
+    bytes[2] = 4; /* the header is judged whole, and first */
+    NEWEST(ONE, bytes, END, (lumbixet_newest){.result = LUMBIXET_SUM});
+    NEWEST(ONE, (const uint8_t[]){0, 0, 0, 0, 0, 0, 0, 5}, 8, (lumbixet_newest){.result = LUMBIXET_COUNT_OR_TYPE});
+    NEWEST(ONE, (const uint8_t[]){0, 0, 0, 0, 0, 0, 0, 0, 0x40, 0}, 10, (lumbixet_newest){.result = LUMBIXET_LONGER_FORM});
+
+    static const uint8_t groups[] = {
+        0, 0, 0, 0, 0, 0, 0, 0, 2,
+        0, 0, 0, 0, 0, 0, 1, 5, 0, 0, 0, 0, 0, 0, 0, 70, 2, 0, 0, 0, 0, 0, 0, 0,
+        0, 0, 0, 0, 0, 0, 1, 6, 0, 0, 0, 0, 0, 0, 0, 7, 1, 0, 0, 0, 0, 0, 0, 9,
+    };
+    NEWEST(LUMBIXET_PROFILE_2, groups, sizeof groups, (lumbixet_newest){.found = 1, .group = 261, .object = 70});
 }
 
 /* A report of so many entries on the wire, all numbers 0, the objects from 0 on: its length. */
@@ -177,6 +252,7 @@ int main(void)
     limits();
     groups();
     other_profiles();
+    newest_lost();
     if (faults == 0)
         printf("report: %d values of the archive are as include/lumbixet_report.h says\n", seen);
     return faults != 0;

@@ -3,13 +3,13 @@
 
 use crate::random::Random;
 use crate::tally::Tally;
-use crate::{compare_codec, compare_counts, compare_forms, compare_limits, compare_profiles};
+use crate::{compare_codec, compare_counts, compare_forms, compare_limits, compare_newest, compare_profiles};
 use crate::{compare_receiver, compare_report, compare_totals, compare_tracker};
 
 /// Each round takes a made-up record through all calls, goes on with a grown one, and reads and writes frames and a report.
 /// Some rounds take a report through all its longer forms, some through the counts of entries at the limit, some through what
-/// the profiles tell apart, some take the tracker's records through its calls,
-/// and some a week's totals.
+/// the profiles tell apart, some through the search for the newest lost object, some take the tracker's records through its
+/// calls, and some a week's totals.
 pub fn run(count: usize) -> Result<(), String> {
     let mut random = Random::from_seed(2);
     let mut tally = Tally::default();
@@ -24,6 +24,7 @@ pub fn run(count: usize) -> Result<(), String> {
         }
         if round % 10 == 0 {
             compare_profiles::round(&mut random, &mut tally)?;
+            compare_newest::round(&mut random, &mut tally)?;
         }
         if round % 40 == 0 {
             compare_limits::round(&mut random, &mut tally)?;

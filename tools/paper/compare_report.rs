@@ -1,6 +1,7 @@
 //! The feedback report of each profile: written from made-up headers and records, read whole, damaged and cut.
 
 use crate::archive::*;
+use crate::compare_newest::compare_newest;
 use crate::made_up::argument;
 use crate::made_up_bytes::damaged;
 use crate::made_up_report::{break_header, break_records, header, profile, profile_of, records, report};
@@ -29,7 +30,7 @@ pub fn another(random: &mut Random) -> u64 {
 }
 
 /// The name under which a call is counted: each profile for itself, and all others together.
-fn named(profile: u64, names: [&'static str; 3]) -> &'static str {
+pub fn named(profile: u64, names: [&'static str; 3]) -> &'static str {
     match profile {
         1 => names[0],
         2 => names[1],
@@ -98,6 +99,7 @@ pub fn compare_readers(random: &mut Random, tally: &mut Tally, profile: u64, byt
     if papers.result == ACCEPTED {
         compare_written_again(profile, bytes, &papers.header)?;
     }
+    compare_newest(tally, profile, bytes)?;
     let (start, length) = find_entries(profile, bytes);
     let archive = unsafe { lumbixet_find_entries(profile, bytes.as_ptr(), bytes.len()) };
     let papers = Entries { start: start as u64, length: length as u64 };

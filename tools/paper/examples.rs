@@ -2,8 +2,9 @@
 //! requests: one line for each.
 
 use crate::example_lines::Examples;
+use crate::examples_wire;
 use crate::replay;
-use crate::{examples_counts, examples_profile, examples_receiver, examples_report, examples_tracker, examples_wire};
+use crate::{examples_counts, examples_newest, examples_profile, examples_receiver, examples_report, examples_tracker};
 
 pub fn run() -> Result<(), String> {
     let mut examples = Examples::default();
@@ -12,6 +13,7 @@ pub fn run() -> Result<(), String> {
     examples_counts::check(&mut examples);
     examples_report::check(&mut examples);
     examples_profile::check(&mut examples);
+    examples_newest::check(&mut examples);
     examples_tracker::check(&mut examples);
     replays(&mut examples);
     match examples.different {

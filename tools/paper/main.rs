@@ -21,6 +21,8 @@ mod compare_lent;
 #[cfg(archive)]
 mod compare_limits;
 #[cfg(archive)]
+mod compare_newest;
+#[cfg(archive)]
 mod compare_profiles;
 #[cfg(archive)]
 mod compare_receiver;
@@ -35,6 +37,7 @@ mod compare_week;
 mod example_lines;
 mod examples;
 mod examples_counts;
+mod examples_newest;
 mod examples_profile;
 mod examples_receiver;
 mod examples_report;
@@ -49,6 +52,9 @@ mod made_up_bytes;
 mod made_up_report;
 #[cfg(archive)]
 mod made_up_tracker;
+#[cfg(archive)]
+mod moments;
+mod newest;
 mod numbers;
 mod profile;
 mod random;

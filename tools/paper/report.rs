@@ -4,6 +4,7 @@
 use crate::numbers::{append, judge_numbers, put_bytes, width, Fields};
 use crate::profile::{judge_records, read_record, Entry, Profile};
 use crate::refusals::{BYTES_BEHIND, COUNT_OR_TYPE, ENDS, ENTRY, NO_ROOM, SUM, TOO_LARGE};
+use std::ops::Range;
 
 /// Document 02, No. 8: "The limit becomes 200 for both readers and the writer."
 pub const MOST_ENTRIES: u64 = 200;
@@ -60,6 +61,17 @@ pub fn read_report(profile: u64, bytes: &[u8]) -> Result<(Header, usize), u64> {
 /// The same by a reader that accepts so many entries; an old receiver is the one with 50.
 pub fn read_report_up_to(most: u64, profile: u64, bytes: &[u8]) -> Result<(Header, usize), u64> {
     let profile = Profile::of(profile)?;
+    let (header, records) = read_header(most, profile, bytes)?;
+    let (start, end) = (records.start, records.end);
+    judge_records(profile, &bytes[records])?;
+    if end < bytes.len() {
+        return Err(BYTES_BEHIND);
+    }
+    Ok((header, start))
+}
+
+/// The header alone, and where the records stand, which are not looked at.
+pub fn read_header(most: u64, profile: Profile, bytes: &[u8]) -> Result<(Header, Range<usize>), u64> {
     let mut fields = Fields { bytes, at: 0 };
     let mut header = read_summary(&mut fields)?;
     read_metrics(profile, &mut fields, &mut header)?;
@@ -70,11 +82,10 @@ pub fn read_report_up_to(most: u64, profile: u64, bytes: &[u8]) -> Result<(Heade
     }
     // "If too few bytes remain for the entries, 2 comes before any 12; 13 is last."
     let end = fields.at + profile.record() * header.entries as usize;
-    judge_records(profile, bytes.get(fields.at..end).ok_or(ENDS)?)?;
-    if end < bytes.len() {
-        return Err(BYTES_BEHIND);
+    if end > bytes.len() {
+        return Err(ENDS);
     }
-    Ok((header, fields.at))
+    Ok((header, fields.at..end))
 }
 
 fn read_summary(fields: &mut Fields) -> Result<Header, u64> {

@@ -44,7 +44,7 @@ pub use marks::{Counts, Mark, Totals};
 pub use profile::{Metrics, Profile, Record};
 pub use receiver::{Heard, Packet, Receiver};
 pub use refusal::{Cause, Refusal};
-pub use report::{Entries, Entry, Header, Report, Status, Written};
+pub use report::{Entries, Entry, Header, Lost, Report, Status, Written};
 pub use tracker::{Made, Tracker, TRACKED};
 pub use week::{Sum, Week, PAGE_ROOM, PIECE_LEAST};
 

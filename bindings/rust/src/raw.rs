@@ -1,5 +1,6 @@
 //! The calls and records of liblumbixet.a as include/lumbixet.h declares them; that header says what each means.
 //! The second implementation (tools/paper) is held against the archive through this same file.
+#![allow(missing_docs)] // the C header says what each field is
 
 /// `lumbixet_receiver`: what may be absent is kept as an end, one past the number, with 0 for none.
 #[repr(C)]
@@ -52,7 +53,6 @@ pub struct Receiver {
 /// `lumbixet_answer`: a call's result and the next record.
 #[repr(C)]
 #[derive(Clone, Copy, Debug, PartialEq, Eq)]
-#[allow(missing_docs)]
 pub struct Answer {
     pub result: u64,
     pub next: Receiver,
@@ -61,7 +61,6 @@ pub struct Answer {
 /// `lumbixet_wrote`: what the write call answers.
 #[repr(C)]
 #[derive(Clone, Copy, Debug, PartialEq, Eq)]
-#[allow(missing_docs)]
 pub struct Wrote {
     pub result: u64,
     pub length: u64,
@@ -71,7 +70,6 @@ pub struct Wrote {
 /// `lumbixet_wrote_lent`: what the write call answers where the record is lent.
 #[repr(C)]
 #[derive(Clone, Copy, Debug, PartialEq, Eq)]
-#[allow(missing_docs)]
 pub struct WroteLent {
     pub result: u64,
     pub length: u64,
@@ -80,7 +78,6 @@ pub struct WroteLent {
 /// `lumbixet_number`: a number that was read, the place after it, and 1 where its form was the shortest.
 #[repr(C)]
 #[derive(Clone, Copy, Debug, Default, PartialEq, Eq)]
-#[allow(missing_docs)]
 pub struct Number {
     pub result: u64,
     pub value: u64,
@@ -91,7 +88,6 @@ pub struct Number {
 /// `lumbixet_put`: the place after what was written.
 #[repr(C)]
 #[derive(Clone, Copy, Debug, Default, PartialEq, Eq)]
-#[allow(missing_docs)]
 pub struct Put {
     pub result: u64,
     pub next: u64,
@@ -100,7 +96,6 @@ pub struct Put {
 /// `lumbixet_frequency`: the four values of an ACK_FREQUENCY frame, and its length.
 #[repr(C)]
 #[derive(Clone, Copy, Debug, Default, PartialEq, Eq)]
-#[allow(missing_docs)]
 pub struct FrequencyFrame {
     pub result: u64,
     pub sequence: u64,
@@ -113,7 +108,6 @@ pub struct FrequencyFrame {
 /// `lumbixet_immediate_frame`: an IMMEDIATE_ACK frame's length.
 #[repr(C)]
 #[derive(Clone, Copy, Debug, Default, PartialEq, Eq)]
-#[allow(missing_docs)]
 pub struct ImmediateFrame {
     pub result: u64,
     pub used: u64,
@@ -122,7 +116,6 @@ pub struct ImmediateFrame {
 /// `lumbixet_ack`: an ACK frame's numbers; its ranges stand in the lent slice. The last three are counts where `counts` is 1.
 #[repr(C)]
 #[derive(Clone, Copy, Debug, Default, PartialEq, Eq)]
-#[allow(missing_docs)]
 pub struct AckFrame {
     pub result: u64,
     pub largest: u64,
@@ -138,7 +131,6 @@ pub struct AckFrame {
 /// `lumbixet_header`: the summary of a report, and its metrics.
 #[repr(C)]
 #[derive(Clone, Copy, Debug, Default, PartialEq, Eq)]
-#[allow(missing_docs)]
 pub struct Header {
     pub timestamp: u64,
     pub interval: u64,
@@ -156,7 +148,6 @@ pub struct Header {
 /// `lumbixet_report`: what reading a report finds.
 #[repr(C)]
 #[derive(Clone, Copy, Debug, Default, PartialEq, Eq)]
-#[allow(missing_docs)]
 pub struct Report {
     pub result: u64,
     pub header: Header,
@@ -165,7 +156,6 @@ pub struct Report {
 /// `lumbixet_entries`: where the entries of a report stand in the caller's own bytes.
 #[repr(C)]
 #[derive(Clone, Copy, Debug, Default, PartialEq, Eq)]
-#[allow(missing_docs)]
 pub struct Entries {
     pub start: u64,
     pub length: u64,
@@ -174,7 +164,6 @@ pub struct Entries {
 /// `lumbixet_entry`: one entry; its group is 0 in profile 1.
 #[repr(C)]
 #[derive(Clone, Copy, Debug, Default, PartialEq, Eq)]
-#[allow(missing_docs)]
 pub struct EntryFound {
     pub result: u64,
     pub group: u64,
@@ -183,10 +172,19 @@ pub struct EntryFound {
     pub age: u64,
 }
 
+/// `lumbixet_newest`: the newest object not received, where `found` is 1; its group is 0 in profile 1.
+#[repr(C)]
+#[derive(Clone, Copy, Debug, Default, PartialEq, Eq)]
+pub struct NewestLost {
+    pub result: u64,
+    pub found: u64,
+    pub group: u64,
+    pub object: u64,
+}
+
 /// `lumbixet_written`: what the writer of reports answers.
 #[repr(C)]
 #[derive(Clone, Copy, Debug, Default, PartialEq, Eq)]
-#[allow(missing_docs)]
 pub struct Written {
     pub result: u64,
     pub next: u64,
@@ -196,7 +194,6 @@ pub struct Written {
 /// `lumbixet_tracker`: what became of 256 objects. Every bit pattern of it has a meaning.
 #[repr(C)]
 #[derive(Clone, Copy, Debug, PartialEq, Eq)]
-#[allow(missing_docs)]
 pub struct Tracker {
     pub first: u64,
     pub interval: u64,
@@ -207,7 +204,6 @@ pub struct Tracker {
 /// `lumbixet_totals`: the totals of a week's reports. Every bit pattern of it has a meaning.
 #[repr(C)]
 #[derive(Clone, Copy, Debug, PartialEq, Eq)]
-#[allow(missing_docs)]
 pub struct WeekTotals {
     pub sums: [u64; 29],
     pub full: [u64; 29],
@@ -217,7 +213,6 @@ pub struct WeekTotals {
 /// `lumbixet_added`: the number that a report is given, and the totals with it.
 #[repr(C)]
 #[derive(Clone, Copy, Debug, PartialEq, Eq)]
-#[allow(missing_docs)]
 pub struct Added {
     pub result: u64,
     pub next: WeekTotals,
@@ -226,7 +221,6 @@ pub struct Added {
 /// `lumbixet_taken`: the totals with the reports of a piece, and how many bytes of it were taken.
 #[repr(C)]
 #[derive(Clone, Copy, Debug, PartialEq, Eq)]
-#[allow(missing_docs)]
 pub struct Taken {
     pub next: WeekTotals,
     pub used: u64,
@@ -235,14 +229,12 @@ pub struct Taken {
 /// `lumbixet_page`: the length of the page.
 #[repr(C)]
 #[derive(Clone, Copy, Debug, Default, PartialEq, Eq)]
-#[allow(missing_docs)]
 pub struct Page {
     pub result: u64,
     pub length: u64,
 }
 
 #[link(name = "lumbixet", kind = "static")]
-#[allow(missing_docs)]
 extern "C" {
     pub fn lumbixet_read_number(bytes: *const u8, length: usize, at: usize) -> Number;
     pub fn lumbixet_put_number(buffer: *mut u8, length: usize, at: usize, value: u64) -> Put;
@@ -271,6 +263,7 @@ extern "C" {
     pub fn lumbixet_read_report(profile: u64, bytes: *const u8, length: usize) -> Report;
     pub fn lumbixet_find_entries(profile: u64, bytes: *const u8, length: usize) -> Entries;
     pub fn lumbixet_read_entry(profile: u64, entries: *const u8, length: usize, index: usize) -> EntryFound;
+    pub fn lumbixet_newest_lost(profile: u64, bytes: *const u8, length: usize) -> NewestLost;
     pub fn lumbixet_write_report(
         profile: u64,
         buffer: *mut u8,

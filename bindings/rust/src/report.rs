@@ -106,6 +106,26 @@ impl<'a> Report<'a> {
         let entries = Entries { profile, bytes: &bytes[part.start as usize..][..part.length as usize] };
         Ok(Report { header: Header::from_raw(&report.header), entries })
     }
+
+    /// The last object of a report that is marked not received; `None` where there is none. It searches from the end and
+    /// stops there: a bad entry before that one goes unnoticed. [`read`](Report::read) judges all of a report.
+    ///
+    /// # Errors
+    /// Those of [`read`](Report::read); here [`Refusal::BytesBehind`] comes before [`Refusal::Entry`].
+    pub fn newest_lost(profile: Profile, bytes: &[u8]) -> Result<Option<Lost>, Refusal> {
+        let newest = unsafe { raw::lumbixet_newest_lost(profile.number(), bytes.as_ptr(), bytes.len()) };
+        accepted(newest.result)?;
+        Ok((newest.found != 0).then_some(Lost { group: newest.group, object: newest.object }))
+    }
+}
+
+/// An object that was not received.
+#[derive(Clone, Copy, Debug, PartialEq, Eq, PartialOrd, Ord, Hash)]
+pub struct Lost {
+    /// Its group; 0 in profile 1.
+    pub group: u64,
+    /// Its number.
+    pub object: u64,
 }
 
 /// The entries of a report, each of its profile's size.

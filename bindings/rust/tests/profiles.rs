@@ -69,3 +69,31 @@ fn numbers() {
         assert_eq!(Refusal::from_number(read.result), Refusal::OtherProfile);
     }
 }
+
+/// The last lost object of either profile, by the very report that is read whole; what stands before it is not judged.
+#[test]
+fn newest_lost() {
+    let lost = |group, object| Entry { status: Status::NotReceived, age: 0, ..entry(group, object) };
+    let entries = [lost(5, 70), lost(5, 71), entry(260, 7)];
+    let mut buffer = [0; REPORT_2_ROOM];
+    let records = entries.map(|entry| entry.record_with_group());
+    let mut bytes = Header::default().write(&mut buffer, &records).unwrap().bytes.to_vec();
+    assert_eq!(Report::newest_lost(Profile::Two, &bytes), Ok(Some(Lost { group: 5, object: 71 })));
+    bytes[9 + 16] = 4; // the status of the first entry
+    assert_eq!(Report::read(Profile::Two, &bytes), Err(Refusal::Entry));
+    assert_eq!(Report::newest_lost(Profile::Two, &bytes), Ok(Some(Lost { group: 5, object: 71 })));
+    bytes[9 + 48 + 16] = 4; // that of the last
+    assert_eq!(Report::newest_lost(Profile::Two, &bytes), Err(Refusal::Entry));
+    bytes.push(0);
+    assert_eq!(Report::read(Profile::Two, &bytes), Err(Refusal::Entry));
+    assert_eq!(Report::newest_lost(Profile::Two, &bytes), Err(Refusal::BytesBehind));
+    assert_eq!(Report::newest_lost(Profile::Two, &bytes[..80]), Err(Refusal::Ends));
+
+    let only = [lost(0, 0).record()];
+    let written = Header::default().write(&mut buffer, &only).unwrap();
+    assert_eq!(Report::newest_lost(Profile::One, written.bytes), Ok(Some(Lost { group: 0, object: 0 })));
+    let none = Header::default().write(&mut buffer, &[entry(0, 0).record()]).unwrap();
+    assert_eq!(Report::newest_lost(Profile::One, none.bytes), Ok(None));
+    let other = unsafe { raw::lumbixet_newest_lost(3, [].as_ptr(), 0) };
+    assert_eq!(other, raw::NewestLost { result: 18, ..raw::NewestLost::default() });
+}

@@ -4,6 +4,8 @@ use mathlib.Core.Path.{sym, _∙_}
 use Rattle.wire.proofs.Only.{OneAnswer}
 use Rattle.entries.proofs.one.read_entry.Reads as read-entry
 use Rattle.entries.proofs.one.read_entry.Kinds as read-entry-kinds
+use Rattle.entries.proofs.one.entry_at.Reads as entry-at
+use Rattle.entries.proofs.one.entry_at.Kinds as entry-at-kinds
 use Rattle.entries.proofs.row.entries_good.Reads as entries-good
 use Rattle.entries.proofs.row.entries_good.Kinds as entries-good-kinds
 use Rattle.entries.proofs.row.entries_fault.Reads as entries-fault
@@ -19,6 +21,9 @@ use Rattle.entries.proofs.Entry.refusal.Kinds as entry-refusal-kinds
 
 pub read-entry-one : OneAnswer 1 read-entry-kinds.ps read-entry-kinds.r read-entry.Post
 read-entry-one κs given x y s t p q = p ∙ sym q
+
+pub entry-at-one : OneAnswer 1 entry-at-kinds.ps entry-at-kinds.r entry-at.Post
+entry-at-one κs given x y s t p q = p ∙ sym q
 
 pub entries-good-one : OneAnswer 1 entries-good-kinds.ps entries-good-kinds.r entries-good.Post
 entries-good-one κs given x y s t p q = p ∙ sym q

@@ -11,6 +11,7 @@ mod one;
 mod row;
 
 pub use fit::fitting;
+pub use one::entry_at;
 pub use one::read_entry;
 pub use row::entries_fault;
 pub use row::entries_good;

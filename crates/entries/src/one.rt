@@ -120,7 +120,7 @@ pub fn read_entry(profile: u64, entries: &[u8], index: usize) -> Entry
 }
 
 // The same in a profile that is one of the two.
-fn entry_at(profile: Profile, entries: &[u8], index: usize) -> Entry
+pub fn entry_at(profile: Profile, entries: &[u8], index: usize) -> Entry
     ensures { λ r. ⌜ r ≡ entryAt profile (now (entries .entry)) index ⌝ }
 {
     if records_in(profile, entries.len()) <= index {

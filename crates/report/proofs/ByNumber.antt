@@ -24,7 +24,7 @@ use Rattle.report.proofs.Refusing.{report-writes, unchanged}
 
 -- one law for reader and writer: the rows of a profile do not give 18
 module _ (Rows : Profile → ℕ → Type 0) (numbers : List ℕ) (others : (p : Profile) (n : ℕ) → Rows p n → OneOf n numbers) (none : OneOf 18 numbers → ⊥) where
-  by : (profile refusal : ℕ) → ((p : Profile) → profile ≡ numberOf p → Rows p refusal) → (Other profile → refusal ≡ 18) → By profile Rows numbers refusal
+  pub by : (profile refusal : ℕ) → ((p : Profile) → profile ≡ numberOf p → Rows p refusal) → (Other profile → refusal ≡ 18) → By profile Rows numbers refusal
   by profile refusal rows eighteen = go (which profile)
     where
       go : Which profile → By profile Rows numbers refusal

@@ -10,6 +10,8 @@ use Rattle.report.proofs.reader.read_report.Reads as read-report
 use Rattle.report.proofs.reader.read_report.Kinds as read-report-kinds
 use Rattle.report.proofs.reader.entries_of.Reads as entries-of
 use Rattle.report.proofs.reader.entries_of.Kinds as entries-of-kinds
+use Rattle.report.proofs.head.read_head.Reads as read-head
+use Rattle.report.proofs.head.read_head.Kinds as read-head-kinds
 use Rattle.report.proofs.writer.write_report.Reads as write-report
 use Rattle.report.proofs.writer.write_report.Kinds as write-report-kinds
 use Rattle.report.proofs.Written.refusal.Reads as written-refusal
@@ -22,6 +24,9 @@ read-report-one κs given x y s t p q = p ∙ sym q
 pub entries-of-one : (κs : Lfts 1) (given : Dens κs entries-of-kinds.ps) (x y : resT entries-of-kinds.r κs .Denot) (s t : AtExit (endedOf 1 entries-of-kinds.ps entries-of-kinds.r) κs)
     → entries-of.Post κs given x s → entries-of.Post κs given y t → now x ≡ now y
 entries-of-one κs given x y s t p q = p ∙ sym q
+
+pub read-head-one : OneAnswer 1 read-head-kinds.ps read-head-kinds.r read-head.Post
+read-head-one κs given x y s t p q = p .0 ∙ sym (q .0)
 
 pub write-report-one : OneBuffer 2 write-report-kinds.ps write-report-kinds.r (λ κs s. now (s .1 .0)) write-report.Post
 write-report-one κs given x y s t p q = (p .0 ∙ sym (q .0), p .1 ∙ sym (q .1))

@@ -3,6 +3,7 @@ pub mod Limits
 pub mod Average
 pub mod Header
 pub mod Reader
+pub mod Head
 pub mod Writer
 pub mod Refusals
 pub mod Exactly

@@ -4,6 +4,7 @@
 ghost use mathlib.Core.Path.{_≡_};
 ghost use Rattle.report.specs.Refusals.{writtenRefusal};
 
+mod head;
 mod headers;
 mod judging;
 mod layout;
@@ -15,6 +16,7 @@ pub use entries::Entry;
 use entries::Profile;
 pub use entries::Status;
 pub use entries::read_entry;
+pub use head::read_head;
 pub use reader::entries_of;
 pub use reader::read_report;
 pub use writer::write_report;
@@ -57,6 +59,13 @@ pub struct Header {
 pub struct Report {
     pub refusal: u64,
     pub header: Header,
+}
+
+// What the header's numbers say of the entries: 0, the place where they begin and how many there are, or a refusal.
+pub struct Announced {
+    pub refusal: u64,
+    pub next: usize,
+    pub entries: u64,
 }
 
 // What the writer answers: the place after the report and how many records were kept, or the refusal.

@@ -21,7 +21,7 @@ use entries::records_in;
 use wire::Number;
 
 // Reads the header's numbers one by one; each is judged as soon as it is read.
-fn read_numbers(profile: Profile, s: &[u8]) -> NumbersRead
+pub(crate) fn read_numbers(profile: Profile, s: &[u8]) -> NumbersRead
     ensures { λ r. ⌜ (readingOf r ≡ readNumbers profile (now (s .entry))) × ((r .next ≤ length (now (s .entry))) × (r .count ≤ mostNumbers)) ⌝ }
 {
     let mut numbers = [0u64; MOST_NUMBERS];

@@ -1,0 +1,5 @@
+pub mod Search
+pub mod Newest
+pub mod Refusals
+pub mod Exactly
+pub mod Against
