@@ -4,7 +4,7 @@
 CFLAGS = -std=c11 -Wall -Wextra -Wpedantic -Werror -O2 -Iinclude
 # The archive as hosts link it, and the crates whose archives are joined in it.
 ARCHIVE = target/lib/liblumbixet.a
-EXPORTS = host host_codec host_report host_newest host_tracker host_totals lent
+EXPORTS = host host_codec host_report host_entry host_writer host_newest host_tracker host_totals lent
 SOURCES = crates.txt $(shell find crates -name '*.rt' -o -name '*.antt')
 PAPER = target/paper/paper
 # The command of the technical desk.

@@ -1,5 +1,4 @@
 -- The entries of a report are the end of the caller's own bytes, from `start` on; of a refused report they are nothing, at its end.
--- And the number that a host gets for a status is the one that the record holds.
 -- Assumes nothing.
 use Prim.Native.Nat.{ℕ, _+_, _-_, _*_, _≤_, zero-le}
 use mathlib.Core.Path.{_≡_, refl, sym, _∙_}
@@ -9,15 +8,11 @@ use lib.ListN.{length, take, drop, length-drop}
 use lib.Seq.{length-take-le}
 use Rattle.entries.specs.Profiles.{recordSize}
 use Rattle.report.specs.Header.{countOf}
-use Rattle.entries.specs.Entries.{withStatus}
-use Rattle.entries.specs.declared.Status.{Status}
-use Rattle.entries.specs.declared.Status.the-variants.{Received, Late, NotReceived, Partial}
-use Rattle.entries.specs.declared.Entry.the-variants.{Record}
 use Rattle.entries.specs.declared.Profile.{Profile}
 use Rattle.entries.proofs.Profiles.{Which, known, other, which, of-known, of-other}
 use Rattle.report.specs.Reader.{Reading, Whole, Stopped, partOf, reportReading as judged, entriesIn, entriesOf, entriesBy}
 use Rattle.report.proofs.Whole.{Judged, judged-whole}
-use Rattle.host_report.specs.Reports.{entriesFound, statusOut}
+use Rattle.host_report.specs.Reports.{entriesFound}
 
 module _ (p : Profile) (s : List ℕ) where
   part-length : (ns : List ℕ) (at : ℕ) → Judged p s ns at → length (partOf p s ns at) ≡ length s - at
@@ -67,10 +62,3 @@ part-found profile s = by (which profile)
     by : Which profile → take (entriesFound profile s .length) (drop (entriesFound profile s .start) s) ≡ entriesBy profile s
     by (known p k) = rw (of-known profile [] (λ p. entriesOf p s) p k) (part-found-in p s)
     by (other o) = rw (of-other profile [] (λ p. entriesOf p s) o)
-
--- the status's number, read as a record's status, is the status
-pub status-told : (group object age : ℕ) (status : Status) → withStatus group object (statusOut status) age ≡ Record group object status age
-status-told group object age Received = refl
-status-told group object age Late = refl
-status-told group object age NotReceived = refl
-status-told group object age Partial = refl

@@ -1,9 +1,9 @@
--- `host_report::reports::written_out` meets its contract: each case gets its refusal number and its own values.
+-- `host_writer::written_out` meets its contract: each case gets its refusal number and its own values.
 -- Assumes nothing.
-use Rattle.host_report.specs.Reports.{writtenOut}
+use Rattle.host_writer.specs.Writer.{writtenOut}
 use borrow.Author.Needs.{needs}
-use Rattle.host_report.proofs.reports.written_out.Statement.{statement}
-use Rattle.host_report.proofs.reports.written_out.Tie as tie
+use Rattle.host_writer.proofs.written_out.Statement.{statement}
+use Rattle.host_writer.proofs.written_out.Tie as tie
 
 refusal-requires : tie.Need-refusal-requires
 refusal-requires c κs = search needs

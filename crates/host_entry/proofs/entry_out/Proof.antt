@@ -1,9 +1,9 @@
--- `host_report::reports::entry_out` meets its contract: each case gets its refusal number and its own values.
+-- `host_entry::entry_out` meets its contract: each case gets its refusal number and its own values.
 -- Assumes nothing.
-use Rattle.host_report.specs.Reports.{entryOut}
+use Rattle.host_entry.specs.Entry.{entryOut}
 use borrow.Author.Needs.{needs}
-use Rattle.host_report.proofs.reports.entry_out.Statement.{statement}
-use Rattle.host_report.proofs.reports.entry_out.Tie as tie
+use Rattle.host_entry.proofs.entry_out.Statement.{statement}
+use Rattle.host_entry.proofs.entry_out.Tie as tie
 
 refusal-requires : tie.Need-refusal-requires
 refusal-requires c κs = search needs

@@ -1,8 +1,8 @@
--- `host_report::reports::lumbixet_read_entry` meets its contract: its numbers are those of the answer that the call gives.
+-- `host_entry::lumbixet_read_entry` meets its contract: its numbers are those of the answer that the call gives.
 -- Assumes nothing.
 use borrow.Author.Needs.{needs}
-use Rattle.host_report.proofs.reports.lumbixet_read_entry.Statement.{statement}
-use Rattle.host_report.proofs.reports.lumbixet_read_entry.Tie as tie
+use Rattle.host_entry.proofs.lumbixet_read_entry.Statement.{statement}
+use Rattle.host_entry.proofs.lumbixet_read_entry.Tie as tie
 
 read-entry-requires : tie.Need-read-entry-requires
 read-entry-requires c κs = search needs

@@ -1,8 +1,8 @@
--- `host_report::reports::lumbixet_write_report` meets its contract: its numbers are those of the answer that the call gives, and the lent buffer is as the call leaves it.
+-- `host_writer::lumbixet_write_report` meets its contract: its numbers are those of the answer that the call gives, and the lent buffer is as the call leaves it.
 -- Assumes nothing.
 use borrow.Author.Needs.{needs}
-use Rattle.host_report.proofs.reports.lumbixet_write_report.Statement.{statement}
-use Rattle.host_report.proofs.reports.lumbixet_write_report.Tie as tie
+use Rattle.host_writer.proofs.lumbixet_write_report.Statement.{statement}
+use Rattle.host_writer.proofs.lumbixet_write_report.Tie as tie
 
 write-report-requires : tie.Need-write-report-requires
 write-report-requires c κs = search needs
