@@ -31,7 +31,7 @@ use Rattle.frames.specs.declared.Tail.the-variants.{Nothing, Counts}
 use Rattle.frames.specs.declared.Ending.the-variants.{Whole as Ended}
 use Rattle.frames.specs.declared.Walk.the-variants.{Whole}
 use Rattle.frames.proofs.Types.{type-right}
-use Rattle.frames.proofs.Ranges.{last, more, step-last, step-more}
+use Rattle.frames.proofs.Ranges.{last, more}
 use Rattle.frames.proofs.Answers.{accepted}
 
 -- ---- ACK_FREQUENCY and IMMEDIATE_ACK
@@ -96,13 +96,12 @@ range-stands pairs s at mid to lo hi smallest largest end h b e g i =
     let z : hi - (hi - lo) ≡ lo = omega arith in
     let y : lo - (lo - largest - 2) - 2 ≡ largest = omega arith in
     let n : suc (suc (length pairs)) / 2 - 1 ≡ length pairs / 2 = omega arith in
-    let left : ℕ = suc (suc (length pairs)) / 2 in
-    sym (rw (z, y, n, i) at (step-more left s at hi refl (sym (more left s at hi refl e refl (omega arith) (omega arith) g (omega arith))) (omega arith)))
+    sym (rw (z, y, n, i) at (more (suc (suc (length pairs)) / 2) s at hi refl e refl (omega arith) (omega arith) g (omega arith)))
 
 last-stands : (s : List ℕ) (at lo hi end : ℕ) {a : Bool} → lo ≤ hi → readNumber s at ≡ Value (hi - lo) end a → rangesFrom 0 s at hi ≡ record { pairs = lo ∷ hi ∷ []; walk = Whole end }
 last-stands s at lo hi end h e =
     let z : hi - (hi - lo) ≡ lo = omega arith in
-    sym (rw z at (step-last 0 s at hi refl (sym (last 0 s at hi refl e refl (omega arith))) refl))
+    sym (rw z at (last 0 s at hi refl e refl (omega arith)))
 
 -- the numbers after the range count give the ranges that they were made of
 ranges-stand : (pairs s : List ℕ) (at lo hi end : ℕ) → lo ≤ hi → RangesBelow lo pairs → Stand s at ((hi - lo) ∷ gapsFrom lo pairs) end

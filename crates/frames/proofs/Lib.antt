@@ -1,7 +1,6 @@
 pub mod Types
 pub mod Ranges
 pub mod Answers
-pub mod Check
 pub mod Back
 pub mod Shortest
 pub mod Accepted

@@ -5,7 +5,8 @@ use borrow.Author.Needs.{needs}
 use native.Mathlib.Omega.{arith}
 use Rattle.frames.specs.Ack.{Ranges, rangesFrom}
 use Rattle.frames.specs.declared.Walk.{Walk}
-use Rattle.frames.proofs.Ranges.{some, step-cut, step-low, step-last, step-more}
+use Rattle.frames.proofs.Ranges.{some, length-cut, length-low, last, gap-cut, gap-low, more}
+use Rattle.wire.proofs.Accepted.{accepted-small}
 use Rattle.frames.proofs.ack_frame.check_ranges.Statement.{statement}
 use Rattle.frames.proofs.ack_frame.check_ranges.Tie as tie
 
@@ -16,11 +17,17 @@ Inv-loop s at largest count high₀ place₀ left₀ high place left =
 abbrev μ-loop : tie.MeasureT-loop
 μ-loop s at largest count high₀ place₀ left₀ high place left = left
 
+abbrev ending : Ranges → Walk
+ending r = r .walk
+
 loop-holds : tie.Need-loop-holds Inv-loop μ-loop
 loop-holds c = refl
 
-read-range-requires : tie.Need-read-range-requires Inv-loop μ-loop
-read-range-requires c κs = search needs
+read-number-requires : tie.Need-read-number-requires Inv-loop μ-loop
+read-number-requires c κs = search needs
+
+enum-known-len : tie.Need-enum-known-len Inv-loop μ-loop
+enum-known-len c = search needs
 
 enum-told : tie.Need-enum-told Inv-loop μ-loop
 enum-told c = search needs
@@ -29,26 +36,70 @@ returns : tie.Need-returns Inv-loop μ-loop
 returns c =
     let a = c .before .before in
     let l = a .before .loop in
-    step-cut (l .left) _ (l .place) (l .high) (a .read-range .ensures) (c .enum-told .given .1) ∙ l .inv
+    ap ending (length-cut (l .left) _ (l .place) (l .high) (a .read-number .ensures) (c .enum-told .given .1)) ∙ l .inv
+
+returns-2 : tie.Need-returns-2 Inv-loop μ-loop
+returns-2 c =
+    let k = c .before .before in
+    let a = k .before .before in
+    let l = a .before .loop in
+    ap ending (length-low (l .left) _ (l .place) (l .high) (a .read-number .ensures) (k .len .given .1) (omega (arith, c .if1 .taken))) ∙ l .inv
+
+returns-3 : tie.Need-returns-3 Inv-loop μ-loop
+returns-3 c =
+    let k = c .before .before .before in
+    let a = k .before .before in
+    let l = a .before .loop in
+    ap ending (last (l .left) _ (l .place) (l .high) (a .read-number .ensures) (k .len .given .1) (c .if2 .taken) (c .before .if1 .left)) ∙ l .inv
+
+read-number-requires-2 : tie.Need-read-number-requires-2 Inv-loop μ-loop
+read-number-requires-2 c κs = search needs
+
+enum-known-gap : tie.Need-enum-known-gap Inv-loop μ-loop
+enum-known-gap c = search needs
 
 enum-told-2 : tie.Need-enum-told-2 Inv-loop μ-loop
 enum-told-2 c = search needs
 
-returns-2 : tie.Need-returns-2 Inv-loop μ-loop
-returns-2 c =
-    let a = c .before .before in
-    let l = a .before .loop in
-    step-low (l .left) _ (l .place) (l .high) (a .read-range .ensures) (c .enum-told2 .given .1) ∙ l .inv
-
-enum-known-range : tie.Need-enum-known-range Inv-loop μ-loop
-enum-known-range c = search needs
-
-returns-3 : tie.Need-returns-3 Inv-loop μ-loop
-returns-3 c =
-    let k = c .before .before in
+returns-4 : tie.Need-returns-4 Inv-loop μ-loop
+returns-4 c =
+    let b = c .before .before in
+    let k = b .before .before .before .before in
     let a = k .before .before in
     let l = a .before .loop in
-    ap (λ (r : Ranges). r .walk) (step-last (l .left) _ (l .place) (l .high) (a .read-range .ensures) (k .range .given .1) (c .if1 .taken)) ∙ l .inv
+    ap ending
+    (gap-cut (l .left) _ (l .place) (l .high) (a .read-number .ensures) (k .len .given .1)
+    (b .read-number2 .ensures) (some (b .before .if2 .left)) (b .before .before .if1 .left)
+    (c .enum-told2 .given .1))
+    ∙ l .inv
+
+add-if3 : tie.Need-add-if3 Inv-loop μ-loop
+add-if3 c =
+    let g = c .before in
+    let b = g .before .before in
+    let k = b .before .before .before .before in
+    let w = k .before .before .before .before .shared-slice-known in
+    let n = k .len .given .0 .1 .0 in
+    omega (arith, accepted-small _ n _ _ (λ i. w .given i .fits) (sym (b .read-number2 .ensures) ∙ g .gap .given .1))
+
+returns-5 : tie.Need-returns-5 Inv-loop μ-loop
+returns-5 c =
+    let g = c .before .before in
+    let b = g .before .before in
+    let k = b .before .before .before .before in
+    let a = k .before .before in
+    let l = a .before .loop in
+    ap ending
+    (gap-low (l .left) _ (l .place) (l .high) (a .read-number .ensures) (k .len .given .1)
+    (b .read-number2 .ensures) (some (b .before .if2 .left)) (b .before .before .if1 .left)
+    (g .gap .given .1) (omega (arith, c .if3 .taken)))
+    ∙ l .inv
+
+sub-high : tie.Need-sub-high Inv-loop μ-loop
+sub-high c = search needs
+
+sub-high-2 : tie.Need-sub-high-2 Inv-loop μ-loop
+sub-high-2 c = search needs
 
 sub-left : tie.Need-sub-left Inv-loop μ-loop
 sub-left c = search needs
@@ -58,10 +109,16 @@ loop-less c = search needs
 
 loop-again : tie.Need-loop-again Inv-loop μ-loop
 loop-again c =
-    let k = c .before .before in
+    let g = c .before .before in
+    let b = g .before .before in
+    let k = b .before .before .before .before in
     let a = k .before .before in
     let l = a .before .loop in
-    ap (λ (r : Ranges). r .walk) (step-more (l .left) _ (l .place) (l .high) (a .read-range .ensures) (k .range .given .1) (some (c .if1 .left))) ∙ l .inv
+    ap ending
+    (more (l .left) _ (l .place) (l .high) (a .read-number .ensures) (k .len .given .1)
+    (b .read-number2 .ensures) (some (b .before .if2 .left)) (b .before .before .if1 .left)
+    (g .gap .given .1) (omega (arith, c .if3 .left)))
+    ∙ l .inv
 
 pub check-ranges-spec : {M : Type 1} → statement M
 check-ranges-spec =
@@ -70,13 +127,20 @@ check-ranges-spec =
     Inv-loop
     μ-loop
     loop-holds
-    read-range-requires
+    read-number-requires
+    enum-known-len
     enum-told
     returns
-    enum-told-2
     returns-2
-    enum-known-range
     returns-3
+    read-number-requires-2
+    enum-known-gap
+    enum-told-2
+    returns-4
+    add-if3
+    returns-5
+    sub-high
+    sub-high-2
     sub-left
     loop-less
     loop-again)

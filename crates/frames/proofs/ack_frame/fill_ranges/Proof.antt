@@ -1,29 +1,33 @@
--- `frames::ack_frame::fill_ranges` meets its contract. The loop's invariant: the walk from here is whole, and what is written, with the ranges still to write after it, is the whole.
+-- `frames::ack_frame::fill_ranges` meets its contract. The loop's invariant: what is written, with the ranges still to write after it, is the whole.
 -- Assumes nothing.
 use Prim.Native.Nat.{_+_, _*_, _≤_}
-use mathlib.Core.Path.{_≡_, refl, sym, ap, subst, _∙_}
+use mathlib.Core.Path.{_≡_, sym, _∙_}
 use borrow.Author.Needs.{needs}
 use native.Mathlib.Omega.{arith}
 use lib.ListN.{length, length-set}
 use Rattle.wire.specs.Bytes.{splice}
-use Rattle.frames.specs.Ack.{Ranges, rangesFrom, IsWhole}
-use Rattle.frames.proofs.Ranges.{some, step-cut, step-low, step-last, step-more, whole-no-cut, whole-no-low, wrote-range, wrote-last}
+use Rattle.frames.specs.Ack.{rangesFrom}
+use Rattle.frames.proofs.Ranges.{some, length-cut, length-low, last, gap-cut, gap-low, more, wrote-none, wrote-range, wrote-last}
+use Rattle.wire.proofs.Accepted.{accepted-small}
 use Rattle.frames.proofs.ack_frame.fill_ranges.Statement.{statement}
 use Rattle.frames.proofs.ack_frame.fill_ranges.Tie as tie
 
 abbrev Inv-loop : tie.InvT-loop
 Inv-loop ranges₀ s at first count largest₀ place₀ left₀ i₀ ranges largest place left i =
-    (length ranges ≡ length ranges₀) × (i + 2 * (left + 1) ≤ length ranges) × IsWhole (rangesFrom left s place largest .walk)
+    (length ranges ≡ length ranges₀) × (i + 2 * (left + 1) ≤ length ranges)
     × (splice ranges i (rangesFrom left s place largest .pairs) ≡ splice ranges₀ 0 (rangesFrom count s at first .pairs))
 
 abbrev μ-loop : tie.MeasureT-loop
 μ-loop ranges₀ s at first count largest₀ place₀ left₀ i₀ ranges largest place left i = left
 
 loop-holds : tie.Need-loop-holds Inv-loop μ-loop
-loop-holds c = (refl, omega arith, c .before .before .pre .1, refl)
+loop-holds c = search needs
 
-read-range-requires : tie.Need-read-range-requires Inv-loop μ-loop
-read-range-requires c κs = search needs
+read-number-requires : tie.Need-read-number-requires Inv-loop μ-loop
+read-number-requires c κs = search needs
+
+enum-known-len : tie.Need-enum-known-len Inv-loop μ-loop
+enum-known-len c = search needs
 
 enum-told : tie.Need-enum-told Inv-loop μ-loop
 enum-told c = search needs
@@ -35,22 +39,17 @@ returns : tie.Need-returns Inv-loop μ-loop
 returns c =
     let a = c .before .before in
     let l = a .before .loop in
-    absurd (whole-no-cut (l .inv .2) (step-cut (l .left) _ (l .place) (l .largest) (a .read-range .ensures) (c .enum-told .given .1)))
-
-enum-told-2 : tie.Need-enum-told-2 Inv-loop μ-loop
-enum-told-2 c = search needs
+    wrote-none (l .ranges) (l .i) (l .inv .2) (length-cut (l .left) _ (l .place) (l .largest) (a .read-number .ensures) (c .enum-told .given .1))
 
 same-length-2 : tie.Need-same-length-2 Inv-loop μ-loop
 same-length-2 c = search needs
 
 returns-2 : tie.Need-returns-2 Inv-loop μ-loop
 returns-2 c =
-    let a = c .before .before in
+    let k = c .before .before in
+    let a = k .before .before in
     let l = a .before .loop in
-    absurd (whole-no-low (l .inv .2) (step-low (l .left) _ (l .place) (l .largest) (a .read-range .ensures) (c .enum-told2 .given .1)))
-
-enum-known-range : tie.Need-enum-known-range Inv-loop μ-loop
-enum-known-range c = search needs
+    wrote-none (l .ranges) (l .i) (l .inv .2) (length-low (l .left) _ (l .place) (l .largest) (a .read-number .ensures) (k .len .given .1) (omega (arith, c .if1 .taken)))
 
 mul-ranges : tie.Need-mul-ranges Inv-loop μ-loop
 mul-ranges c = search needs
@@ -72,12 +71,67 @@ same-length-3 c = simp length-set (search needs)
 
 returns-3 : tie.Need-returns-3 Inv-loop μ-loop
 returns-3 c =
-    let k = c .before .before in
+    let k = c .before .before .before in
     let a = k .before .before in
     let l = a .before .loop in
-    wrote-last (l .ranges) (l .i) (l .inv .3)
-    (step-last (l .left) _ (l .place) (l .largest) (a .read-range .ensures) (k .range .given .1) (c .if1 .taken))
+    wrote-last (l .ranges) (l .i) (l .inv .2)
+    (last (l .left) _ (l .place) (l .largest) (a .read-number .ensures) (k .len .given .1) (c .if2 .taken) (c .before .if1 .left))
     (omega arith)
+
+read-number-requires-2 : tie.Need-read-number-requires-2 Inv-loop μ-loop
+read-number-requires-2 c κs = search needs
+
+enum-known-gap : tie.Need-enum-known-gap Inv-loop μ-loop
+enum-known-gap c = search needs
+
+enum-told-2 : tie.Need-enum-told-2 Inv-loop μ-loop
+enum-told-2 c = search needs
+
+same-length-4 : tie.Need-same-length-4 Inv-loop μ-loop
+same-length-4 c = simp length-set (search needs)
+
+returns-4 : tie.Need-returns-4 Inv-loop μ-loop
+returns-4 c =
+    let b = c .before .before in
+    let k = b .before .before .before .before in
+    let a = k .before .before in
+    let l = a .before .loop in
+    wrote-last (l .ranges) (l .i) (l .inv .2)
+    (gap-cut (l .left) _ (l .place) (l .largest) (a .read-number .ensures) (k .len .given .1)
+    (b .read-number2 .ensures) (some (b .before .if2 .left)) (b .before .before .if1 .left)
+    (c .enum-told2 .given .1))
+    (omega (arith, l))
+
+add-if3 : tie.Need-add-if3 Inv-loop μ-loop
+add-if3 c =
+    let g = c .before in
+    let b = g .before .before in
+    let k = b .before .before .before .before in
+    let w = k .before .before .before .before .shared-slice-known in
+    let n = k .len .given .0 .1 .0 in
+    omega (arith, accepted-small _ n _ _ (λ i. w .given i .fits) (sym (b .read-number2 .ensures) ∙ g .gap .given .1))
+
+same-length-5 : tie.Need-same-length-5 Inv-loop μ-loop
+same-length-5 c = simp length-set (search needs)
+
+returns-5 : tie.Need-returns-5 Inv-loop μ-loop
+returns-5 c =
+    let g = c .before .before in
+    let b = g .before .before in
+    let k = b .before .before .before .before in
+    let a = k .before .before in
+    let l = a .before .loop in
+    wrote-last (l .ranges) (l .i) (l .inv .2)
+    (gap-low (l .left) _ (l .place) (l .largest) (a .read-number .ensures) (k .len .given .1)
+    (b .read-number2 .ensures) (some (b .before .if2 .left)) (b .before .before .if1 .left)
+    (g .gap .given .1) (omega (arith, c .if3 .taken)))
+    (omega (arith, l))
+
+sub-largest : tie.Need-sub-largest Inv-loop μ-loop
+sub-largest c = search needs
+
+sub-largest-2 : tie.Need-sub-largest-2 Inv-loop μ-loop
+sub-largest-2 c = search needs
 
 sub-left : tie.Need-sub-left Inv-loop μ-loop
 sub-left c = search needs
@@ -90,14 +144,18 @@ loop-less c = search needs
 
 loop-again : tie.Need-loop-again Inv-loop μ-loop
 loop-again c =
-    let k = c .before .before in
+    let g = c .before .before in
+    let b = g .before .before in
+    let k = b .before .before .before .before in
     let a = k .before .before in
-    let l = a .before .loop in
-    let e = step-more (l .left) _ (l .place) (l .largest) (a .read-range .ensures) (k .range .given .1) (some (c .if1 .left)) in (
+    let l = a .before .loop in (
       simp length-set (l .inv .0),
-      simp length-set (omega (arith, l, some (c .if1 .left))),
-      subst IsWhole (sym (ap (λ (r : Ranges). r .walk) e)) (l .inv .2),
-      wrote-range (l .ranges) (l .i) (l .inv .3) e (omega (arith, l)),
+      simp length-set (omega (arith, l, some (b .before .if2 .left))),
+      wrote-range (l .ranges) (l .i) (l .inv .2)
+          (more (l .left) _ (l .place) (l .largest) (a .read-number .ensures) (k .len .given .1)
+          (b .read-number2 .ensures) (some (b .before .if2 .left)) (b .before .before .if1 .left)
+          (g .gap .given .1) (omega (arith, c .if3 .left)))
+          (omega (arith, l)),
     )
 
 pub fill-ranges-spec : {M : Type 1} → statement M
@@ -107,14 +165,13 @@ fill-ranges-spec =
     Inv-loop
     μ-loop
     loop-holds
-    read-range-requires
+    read-number-requires
+    enum-known-len
     enum-told
     same-length
     returns
-    enum-told-2
     same-length-2
     returns-2
-    enum-known-range
     mul-ranges
     slice-write-ranges
     add-ranges
@@ -122,6 +179,16 @@ fill-ranges-spec =
     slice-write-ranges-2
     same-length-3
     returns-3
+    read-number-requires-2
+    enum-known-gap
+    enum-told-2
+    same-length-4
+    returns-4
+    add-if3
+    same-length-5
+    returns-5
+    sub-largest
+    sub-largest-2
     sub-left
     add-i
     loop-less
