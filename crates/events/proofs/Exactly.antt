@@ -14,7 +14,7 @@ use Rattle.wire.specs.Bytes.{pick, be}
 use Rattle.seen.specs.declared.Micros.{Micros}
 use Rattle.receiver.specs.declared.Receiver.{Receiver}
 use Rattle.receiver.specs.declared.Answer.{Answer}
-use Rattle.receiver.specs.declared.Kind.the-variants.{Plain as Kind02}
+use Rattle.ecn.specs.declared.Kind.the-variants.{Plain as Kind02}
 use Rattle.receiver.specs.Packet.{packetCall}
 use Rattle.receiver.specs.Calls.{timerCall, immediateCall}
 use Rattle.receiver.specs.Exactly.{Row, first, packetRows, timerRows, immediateRows}

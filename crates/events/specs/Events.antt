@@ -6,9 +6,9 @@ use lib.Dec.{leb, eqb}
 use lib.ListN.{length, getD, take, drop, replicate}
 use Rattle.wire.specs.Bytes.{pick, be}
 use Rattle.seen.specs.declared.Micros.{Micros}
-use Rattle.receiver.specs.declared.Mark.{Mark}
-use Rattle.receiver.specs.declared.Mark.the-variants.{None, Ect0, Ect1, Ce}
-use Rattle.receiver.specs.declared.Kind.the-variants.{Plain}
+use Rattle.ecn.specs.declared.Mark.{Mark}
+use Rattle.ecn.specs.declared.Mark.the-variants.{None, Ect0, Ect1, Ce}
+use Rattle.ecn.specs.declared.Kind.the-variants.{Plain}
 use Rattle.receiver.specs.declared.Receiver.{Receiver}
 use Rattle.receiver.specs.declared.Answer.{Answer}
 use Rattle.receiver.specs.declared.Wrote.{Wrote}

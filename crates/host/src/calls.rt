@@ -4,15 +4,16 @@ ghost use Rattle.receiver.specs.Packet.{packetCall};
 ghost use Rattle.receiver.specs.Calls.{openCall, timerCall, immediateCall, thresholdCall};
 ghost use Rattle.receiver.specs.Confirm.{confirmCall};
 ghost use Rattle.receiver.specs.Write.{writeAnswer, writeBytes};
-ghost use Rattle.receiver.specs.Given.{millis, micros, markOf, kindOf};
+ghost use Rattle.ecn.specs.Given.{markOf, kindOf};
+ghost use Rattle.receiver.specs.Given.{millis, micros};
 ghost use Rattle.host.specs.Calls.{verdictOut, heardOut};
+use ecn::given;
 use receiver::Answer;
 use receiver::Heard;
 use receiver::Millis;
 use receiver::Receiver;
 use receiver::Verdict;
 use receiver::Wrote;
-use receiver::given;
 use seen::Micros;
 
 // The result of a stale frame, which is neither accepted nor refused.

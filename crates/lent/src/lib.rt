@@ -2,13 +2,14 @@
 // Each copies the record out, calls the method by value and stores the next record, so it answers what that call answers, refusals included.
 // They stand in an archive crate of their own: beside the exports by value both would be compiled slower.
 ghost use mathlib.Core.Path.{_≡_};
-ghost use Rattle.receiver.specs.Given.{micros, markOf, kindOf};
+ghost use Rattle.ecn.specs.Given.{markOf, kindOf};
+ghost use Rattle.receiver.specs.Given.{micros};
 ghost use Rattle.receiver.specs.Packet.{packetCall};
 ghost use Rattle.receiver.specs.Calls.{timerCall};
 ghost use Rattle.receiver.specs.Write.{writeAnswer, writeBytes};
 ghost use Rattle.lent.specs.Lent.{wroteLent};
+use ecn::given;
 use receiver::Receiver;
-use receiver::given;
 use seen::Micros;
 
 // What a write answers where the record is lent.

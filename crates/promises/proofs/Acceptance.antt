@@ -23,7 +23,7 @@ use Rattle.receiver.specs.Write.{writeRefusal, afterWrite, answered}
 use Rattle.receiver.specs.Exactly.{Row, row, first, packetRows, timerRows, immediateRows, thresholdRows, confirmRows, verdictOf}
 use Rattle.receiver.specs.Emits.{writeRows}
 use Rattle.receiver.proofs.Exactly.{unchanged}
-use Rattle.receiver.specs.declared.Mark.{Mark}
+use Rattle.ecn.specs.declared.Mark.{Mark}
 use Rattle.promises.specs.Sequence.{Call, packet, timer, immediate, threshold, write, confirm, accepted, replyOf, replyTo, step}
 use Rattle.promises.proofs.Truth.{both-left, both-right, not-false, last-false}
 use Rattle.promises.proofs.Rows.{by-rows}

@@ -13,7 +13,7 @@ use Rattle.receiver.specs.declared.Receiver.{Receiver}
 use Rattle.seen.specs.Received.{floor, floorOf, seenConsistent, reported}
 use Rattle.receiver.specs.Record.{consistent}
 use Rattle.ack.specs.Ack.{ranges, numberOfRanges, ackDelay, frame, rangesKept}
-use Rattle.receiver.specs.Totals.{tailOf}
+use Rattle.ecn.specs.Totals.{tailOf}
 use Rattle.receiver.specs.Write.{writeAnswer}
 use Rattle.ack.specs.Emits.{Received, MaximalRuns as WindowRuns}
 use Rattle.ack.proofs.Maximal.{ranges-are-runs}

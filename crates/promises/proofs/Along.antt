@@ -21,10 +21,10 @@ use Rattle.seen.specs.Received.{confirmedAfter}
 use Rattle.receiver.specs.Packet.{nothingAgreed, pendingAfter, firstCause, congestion, causeAfter, packetAfter, standing, handedBack}
 use Rattle.receiver.specs.Calls.{opened, usual, openRefusal, openCall, timerDue, agreedAfter}
 use Rattle.receiver.specs.Write.{afterWrite}
-use Rattle.receiver.specs.declared.Mark.{Mark}
-use Rattle.receiver.specs.declared.Kind.{Kind}
-use Rattle.receiver.specs.declared.Totals.{Totals}
-use Rattle.receiver.specs.Totals.{isCe, totalsAfter}
+use Rattle.ecn.specs.declared.Mark.{Mark}
+use Rattle.ecn.specs.declared.Kind.{Kind}
+use Rattle.ecn.specs.declared.Totals.{Totals}
+use Rattle.ecn.specs.Totals.{isCe, totalsAfter}
 use Rattle.promises.specs.Sequence.{Call, packet, timer, immediate, threshold, write, confirm, Calls, none, _then_, Reply, accepted, stale, refused, after, replied, opening}
 use Rattle.promises.specs.Accepted.{Packet, Frame, packetOf, frameOf, joined, acceptedOf, packets, since, before, frames}
 use Rattle.promises.specs.Told.{largest, elicitingOf, arrivalOf, firstArrival, lastMark, noFrame, largestSequence, valuesOf, inForce, confirmedOf, seenOf, leftArrival, pendingOf, howOften, totalsOf, tell}

@@ -15,9 +15,9 @@ use Rattle.seen.specs.declared.Micros.{Micros}
 use Rattle.receiver.specs.declared.Receiver.{Receiver}
 use Rattle.receiver.specs.Packet.{startsCongestion, nothingAgreed, standing, handedBack}
 use Rattle.receiver.specs.Calls.{opened, usual, openRefusal, openCall, timerDue}
-use Rattle.receiver.specs.declared.Mark.{Mark}
-use Rattle.receiver.specs.declared.Kind.{Kind}
-use Rattle.receiver.specs.Totals.{isCe}
+use Rattle.ecn.specs.declared.Mark.{Mark}
+use Rattle.ecn.specs.declared.Kind.{Kind}
+use Rattle.ecn.specs.Totals.{isCe}
 use Rattle.promises.specs.Sequence.{Call, packet, timer, immediate, threshold, write, confirm, Calls, none, _then_, Reply, accepted, stale, refused, after, replied, opening}
 use Rattle.promises.specs.Accepted.{oneIf, Packet, packetOf, frameOf, joined, acceptedOf, packets, since, before, frames}
 use Rattle.promises.specs.Told.{largest, elicitingOf, among, lastMark, noFrame, largestSequence, inForce, floorIn, pendingOf}

@@ -13,8 +13,8 @@ use Rattle.seen.specs.declared.Micros.{Micros}
 use Rattle.receiver.specs.declared.Agreed.{Agreed}
 use Rattle.receiver.specs.declared.Receiver.{Receiver}
 use Rattle.receiver.specs.Packet.{startsCongestion, nothingAgreed, firstCause, congestion}
-use Rattle.receiver.specs.declared.Mark.{Mark}
-use Rattle.receiver.specs.Totals.{isCe}
+use Rattle.ecn.specs.declared.Mark.{Mark}
+use Rattle.ecn.specs.Totals.{isCe}
 use Rattle.promises.specs.Sequence.{packet, Calls, _then_, opening}
 use Rattle.promises.specs.Accepted.{Packet, acceptedOf, packets, since, before, frames}
 use Rattle.promises.specs.Told.{largest, elicitingOf, lastMark, inForce, seenOf, pendingOf}

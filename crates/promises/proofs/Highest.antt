@@ -13,7 +13,7 @@ use Rattle.receiver.specs.declared.Millis.{Millis}
 use Rattle.seen.specs.declared.Micros.{Micros}
 use Rattle.receiver.specs.declared.Receiver.{Receiver}
 use Rattle.receiver.specs.Packet.{order}
-use Rattle.receiver.specs.declared.Mark.{Mark}
+use Rattle.ecn.specs.declared.Mark.{Mark}
 use Rattle.promises.specs.Sequence.{packet, Calls, _then_, accepted, after, replied, opening}
 use Rattle.promises.specs.Accepted.{Packet, acceptedOf, packets, since, before}
 use Rattle.promises.specs.Told.{largest, elicitingOf, floorIn, pendingOf, tell}

@@ -25,11 +25,11 @@ use Rattle.receiver.specs.Calls.{timerDue, timerAfter, immediateAfter, agreedAf
 use Rattle.receiver.proofs.Clauses.{consistent-exactly}
 use Rattle.seen.proofs.After.{seen-end, seen-confirmed}
 use Rattle.receiver.proofs.Emits.{write-keeps}
-use Rattle.receiver.specs.declared.Mark.{Mark}
-use Rattle.receiver.specs.declared.Kind.{Kind}
-use Rattle.receiver.specs.declared.Mark.the-variants.{None, Ect0, Ect1, Ce}
-use Rattle.receiver.specs.declared.Totals.{Totals}
-use Rattle.receiver.specs.Totals.{isCe, totalsAfter}
+use Rattle.ecn.specs.declared.Mark.{Mark}
+use Rattle.ecn.specs.declared.Kind.{Kind}
+use Rattle.ecn.specs.declared.Mark.the-variants.{None, Ect0, Ect1, Ce}
+use Rattle.ecn.specs.declared.Totals.{Totals}
+use Rattle.ecn.specs.Totals.{isCe, totalsAfter}
 use Rattle.promises.specs.Sequence.{Call, packet, timer, immediate, threshold, write, confirm, Calls, none, _then_, Reply, accepted, stale, refused, Outcome, step, after, opening}
 use Rattle.promises.specs.Kept.{Kept}
 use Rattle.promises.proofs.Writing.{write-is-step}

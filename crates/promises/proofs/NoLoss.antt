@@ -20,7 +20,7 @@ use Rattle.receiver.specs.declared.Agreed.{Agreed}
 use Rattle.receiver.specs.declared.Receiver.{Receiver}
 use Rattle.receiver.specs.Packet.{standing}
 use Rattle.receiver.specs.Calls.{timerDue}
-use Rattle.receiver.specs.declared.Mark.{Mark}
+use Rattle.ecn.specs.declared.Mark.{Mark}
 use Rattle.promises.specs.Sequence.{packet, timer, immediate, threshold, write, confirm, Calls, none, _then_, opening}
 use Rattle.promises.specs.Accepted.{Packet, packetOf, acceptedOf, packets, since, before, frames}
 use Rattle.promises.specs.Told.{largest, elicitingOf, among, inForce, confirmedOf, floorIn, pendingOf}

@@ -18,8 +18,8 @@ use Rattle.seen.specs.Received.{floor, floorOf, received, reported}
 use Rattle.receiver.specs.Record.{delayRule, consistent}
 use Rattle.ack.specs.Ack.{frame, ackDelay}
 use Rattle.receiver.specs.Exactly.{row, first, verdictOf}
-use Rattle.receiver.specs.declared.Totals.{Totals}
-use Rattle.receiver.specs.Totals.{tailOf}
+use Rattle.ecn.specs.declared.Totals.{Totals}
+use Rattle.ecn.specs.Totals.{tailOf}
 use Rattle.promises.specs.Sequence.{Call, packet, timer, immediate, threshold, write, confirm, Calls, none, _then_, Reply, replyOf, replyTo, after, replied, opening}
 use Rattle.promises.specs.Accepted.{joined, acceptedOf, packets}
 use Rattle.promises.specs.Told.{largest, among, seenOf}

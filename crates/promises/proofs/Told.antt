@@ -15,11 +15,11 @@ use Rattle.seen.specs.declared.Seen.{Seen}
 use Rattle.receiver.specs.declared.Pending.{Pending}
 use Rattle.receiver.specs.declared.Receiver.{Receiver}
 use Rattle.seen.specs.Received.{floor, floorOf, placeOf, received}
-use Rattle.receiver.specs.declared.Mark.{Mark}
+use Rattle.ecn.specs.declared.Mark.{Mark}
 use Rattle.promises.specs.Sequence.{packet, threshold, Calls, accepted, after, replied, opening}
 use Rattle.promises.specs.Accepted.{Packet, acceptedOf, packets, since, frames}
 use Rattle.promises.specs.Told.{largest, elicitingOf, among, firstArrival, largestSequence, seenOf, leftArrival, pendingOf, tell, Told}
-use Rattle.receiver.specs.declared.Totals.{Totals}
+use Rattle.ecn.specs.declared.Totals.{Totals}
 use Rattle.promises.specs.Totals.{BelowLimit, AddUp}
 use Rattle.promises.proofs.Totals.{add-up-of}
 use Rattle.promises.proofs.Acceptance.{step-meets}

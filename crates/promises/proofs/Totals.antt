@@ -10,11 +10,11 @@ use borrow.Author.Tests.{not-false}
 use lib.ListN.{length}
 use Rattle.wire.specs.Numbers.{limit}
 use Rattle.wire.proofs.Lengths.{split}
-use Rattle.receiver.specs.declared.Mark.{Mark}
-use Rattle.receiver.specs.declared.Mark.the-variants.{None, Ect0, Ect1, Ce}
-use Rattle.receiver.specs.declared.Totals.{Totals}
+use Rattle.ecn.specs.declared.Mark.{Mark}
+use Rattle.ecn.specs.declared.Mark.the-variants.{None, Ect0, Ect1, Ce}
+use Rattle.ecn.specs.declared.Totals.{Totals}
 use Rattle.receiver.specs.declared.Receiver.{Receiver}
-use Rattle.receiver.specs.Totals.{isCe, isEct0, isEct1, isNone, oneMore, totalsAfter}
+use Rattle.ecn.specs.Totals.{isCe, isEct0, isEct1, isNone, oneMore, totalsAfter}
 use Rattle.receiver.specs.Packet.{packetAfter}
 use Rattle.receiver.specs.Calls.{agreedAfter}
 use Rattle.receiver.specs.Write.{afterWrite}

@@ -4,7 +4,7 @@ use Prim.Native.Nat.{ℕ}
 use mathlib.Core.Bool.{Bool, true, false}
 use mathlib.Core.List.{List, [], _∷_}
 use Rattle.seen.specs.declared.Micros.{Micros}
-use Rattle.receiver.specs.declared.Mark.{Mark}
+use Rattle.ecn.specs.declared.Mark.{Mark}
 use Rattle.receiver.specs.declared.Receiver.{Receiver}
 use Rattle.promises.specs.Sequence.{Call, packet, timer, immediate, threshold, write, confirm, Calls, none, _then_, Reply, accepted, stale, refused, replied}
 

@@ -10,10 +10,10 @@ use Rattle.frames.specs.Ack.{ackNumbers, readAck}
 use Rattle.frames.specs.declared.Tail.{Tail}
 use Rattle.frames.specs.declared.Ack.the-variants.{Frame}
 use Rattle.receiver.specs.declared.Millis.{Millis}
-use Rattle.receiver.specs.declared.Kind.{Kind}
+use Rattle.ecn.specs.declared.Kind.{Kind}
 use Rattle.seen.specs.declared.Micros.{Micros}
 use Rattle.ack.specs.Ack.{ackDelay}
-use Rattle.receiver.specs.Totals.{tailOf}
+use Rattle.ecn.specs.Totals.{tailOf}
 use Rattle.receiver.specs.Write.{writeAnswer, writeBytes}
 use Rattle.promises.specs.Sequence.{write, Calls, accepted, after, replied, opening}
 use Rattle.promises.specs.Accepted.{acceptedOf, packets}

@@ -9,7 +9,7 @@ use Rattle.receiver.specs.declared.Millis.{Millis}
 use Rattle.seen.specs.declared.Micros.{Micros}
 use Rattle.receiver.specs.Calls.{openCall}
 use Rattle.receiver.specs.Packet.{startsCongestion}
-use Rattle.receiver.specs.Totals.{isCe}
+use Rattle.ecn.specs.Totals.{isCe}
 use Rattle.promises.specs.Sequence.{Call, packet, timer, immediate, threshold, write, confirm, Calls, none, _then_}
 use Rattle.promises.specs.Accepted.{oneIf, Frame, packets, frames}
 use Rattle.promises.specs.Told.{elicitingOf, lastMark, noFrame}

@@ -9,8 +9,8 @@ use Rattle.seen.specs.declared.Micros.{Micros}
 use Rattle.receiver.specs.declared.Receiver.{Receiver}
 use Rattle.receiver.specs.Packet.{startsCongestion, nothingAgreed, standing, firstCause}
 use Rattle.receiver.specs.Calls.{timerDue}
-use Rattle.receiver.specs.declared.Mark.{Mark}
-use Rattle.receiver.specs.Totals.{isCe}
+use Rattle.ecn.specs.declared.Mark.{Mark}
+use Rattle.ecn.specs.Totals.{isCe}
 use Rattle.promises.specs.Sequence.{packet, timer, immediate, threshold, write, confirm, Calls, none, _then_, after, opening}
 use Rattle.promises.specs.Accepted.{acceptedOf, packets, since, before, frames}
 use Rattle.promises.specs.Told.{largest, elicitingOf, lastMark, inForce, floorIn, seenOf, pendingOf, tell}

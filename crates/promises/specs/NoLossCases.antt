@@ -5,7 +5,7 @@ use mathlib.Core.Bool.{Bool, true, false}
 use mathlib.Core.List.{List, [], _∷_}
 use lib.Dec.{leb, ltb}
 use Rattle.receiver.specs.declared.Receiver.{Receiver}
-use Rattle.receiver.specs.declared.Mark.the-variants.{None}
+use Rattle.ecn.specs.declared.Mark.the-variants.{None}
 use Rattle.promises.specs.Sequence.{Call, packet, confirm, Calls, none, inOrder, after}
 use Rattle.promises.specs.Accepted.{acceptedOf, packets}
 use Rattle.promises.specs.Told.{largest, elicitingOf, among, floorIn}

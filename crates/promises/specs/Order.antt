@@ -11,9 +11,9 @@ use Rattle.seen.specs.declared.Micros.{Micros}
 use Rattle.receiver.specs.declared.Receiver.{Receiver}
 use Rattle.seen.specs.Received.{isAny}
 use Rattle.receiver.specs.Packet.{order}
-use Rattle.receiver.specs.declared.Mark.{Mark}
-use Rattle.receiver.specs.declared.Mark.the-variants.{None}
-use Rattle.receiver.specs.declared.Kind.the-variants.{Plain}
+use Rattle.ecn.specs.declared.Mark.{Mark}
+use Rattle.ecn.specs.declared.Mark.the-variants.{None}
+use Rattle.ecn.specs.declared.Kind.the-variants.{Plain}
 use Rattle.promises.specs.Sequence.{packet, write, Calls, none, _then_, accepted, after, replied, opening}
 use Rattle.promises.specs.Accepted.{Packet, packets}
 use Rattle.promises.specs.Told.{largest, among, floorIn, seenOf}

@@ -6,8 +6,8 @@ use mathlib.Core.List.{List, [], _∷_}
 use Rattle.receiver.specs.declared.Millis.{Millis}
 use Rattle.seen.specs.declared.Micros.{Micros}
 use Rattle.receiver.specs.declared.Receiver.{Receiver}
-use Rattle.receiver.specs.declared.Mark.the-variants.{None, Ce}
-use Rattle.receiver.specs.declared.Kind.the-variants.{Plain}
+use Rattle.ecn.specs.declared.Mark.the-variants.{None, Ce}
+use Rattle.ecn.specs.declared.Kind.the-variants.{Plain}
 use Rattle.promises.specs.Sequence.{Call, packet, timer, immediate, threshold, write, confirm, Calls, none, inOrder, opening}
 use Rattle.promises.specs.Accepted.{acceptedOf}
 use Rattle.promises.specs.Counted.{E, S, F, C, I, D, W, openingT}

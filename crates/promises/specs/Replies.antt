@@ -11,7 +11,7 @@ use Rattle.seen.specs.declared.Micros.{Micros}
 use Rattle.receiver.specs.declared.Receiver.{Receiver}
 use Rattle.seen.specs.Numbers.{small}
 use Rattle.seen.specs.Received.{reported}
-use Rattle.receiver.specs.Totals.{tailOf}
+use Rattle.ecn.specs.Totals.{tailOf}
 use Rattle.receiver.specs.Record.{delayRule}
 use Rattle.ack.specs.Ack.{frame, ackDelay}
 use Rattle.receiver.specs.Exactly.{row, first, verdictOf}

@@ -5,7 +5,7 @@ use lib.ListN.{replicate}
 use Rattle.wire.specs.Numbers.{widthOf}
 use Rattle.frames.specs.Frequency.{readFrequency}
 use Rattle.frames.specs.declared.Frequency.the-variants.{Frame}
-use Rattle.receiver.specs.declared.Kind.the-variants.{Plain}
+use Rattle.ecn.specs.declared.Kind.the-variants.{Plain}
 use Rattle.receiver.specs.Write.{writeBytes}
 use Rattle.receiver.specs.Examples.{started, arrival, dues}
 use Rattle.receiver.specs.Settled.{five, atOnce, inRoom}

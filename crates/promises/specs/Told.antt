@@ -14,10 +14,10 @@ use Rattle.seen.specs.declared.Micros.{Micros}
 use Rattle.seen.specs.declared.Seen.{Seen}
 use Rattle.receiver.specs.declared.Pending.{Pending}
 use Rattle.receiver.specs.declared.Agreed.{Agreed}
-use Rattle.receiver.specs.declared.Mark.{Mark}
-use Rattle.receiver.specs.declared.Totals.{Totals}
+use Rattle.ecn.specs.declared.Mark.{Mark}
+use Rattle.ecn.specs.declared.Totals.{Totals}
 use Rattle.receiver.specs.declared.Receiver.{Receiver}
-use Rattle.receiver.specs.Totals.{isCe, isEct0, isEct1, isNone}
+use Rattle.ecn.specs.Totals.{isCe, isEct0, isEct1, isNone}
 use Rattle.seen.specs.Received.{floor, floorOf, received}
 use Rattle.ack.specs.Ack.{numberAt}
 use Rattle.promises.specs.Sequence.{packet, timer, immediate, threshold, write, confirm, Calls, none, _then_, accepted, after, replied, opening}

@@ -6,7 +6,7 @@ use lib.ListN.{length}
 use Rattle.wire.specs.Numbers.{limit}
 use Rattle.receiver.specs.declared.Millis.{Millis}
 use Rattle.seen.specs.declared.Micros.{Micros}
-use Rattle.receiver.specs.declared.Totals.{Totals}
+use Rattle.ecn.specs.declared.Totals.{Totals}
 use Rattle.receiver.specs.declared.Receiver.{Receiver}
 use Rattle.promises.specs.Sequence.{Call, Calls, step, inOrder, after, opening}
 use Rattle.promises.specs.Accepted.{acceptedOf, packets}

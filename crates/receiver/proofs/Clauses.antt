@@ -18,9 +18,9 @@ use Rattle.receiver.specs.declared.Limits.{Limits}
 use Rattle.receiver.specs.declared.Pending.{Pending}
 use Rattle.seen.specs.Numbers.{small, smallEnd}
 use Rattle.seen.specs.Received.{seenConsistent, floorFits, numbersObey, marksConsistent}
-use Rattle.receiver.specs.declared.Kind.{Kind}
-use Rattle.receiver.specs.declared.Kind.the-variants.{Plain, Counts as WithCounts}
-use Rattle.receiver.specs.Totals.{totalsConsistent, tailOf}
+use Rattle.ecn.specs.declared.Kind.{Kind}
+use Rattle.ecn.specs.declared.Kind.the-variants.{Plain, Counts as WithCounts}
+use Rattle.ecn.specs.Totals.{totalsConsistent, tailOf}
 use Rattle.receiver.specs.Record.{limitsRule, delayRule, pendingConsistent, agreedConsistent, consistent, microsOf}
 use Rattle.receiver.specs.Consistent.{Consistent, ConsistentExactly}
 

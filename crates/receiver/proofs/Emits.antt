@@ -17,8 +17,8 @@ use Rattle.seen.proofs.Tests.{by-test}
 use Rattle.ack.proofs.Emits.{frame-fits, laid-long, laid-stays, ack-read-back}
 use Rattle.receiver.specs.declared.Receiver.{Receiver}
 use Rattle.frames.specs.declared.Tail.{Tail}
-use Rattle.receiver.specs.declared.Kind.{Kind}
-use Rattle.receiver.specs.Totals.{tailOf}
+use Rattle.ecn.specs.declared.Kind.{Kind}
+use Rattle.ecn.specs.Totals.{tailOf}
 use Rattle.receiver.specs.Record.{restConsistent, consistent}
 use Rattle.receiver.specs.Consistent.{Consistent}
 use Rattle.receiver.specs.Exactly.{first}

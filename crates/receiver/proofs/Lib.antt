@@ -1,6 +1,5 @@
 pub mod Standing
 pub mod Missing
-pub mod Counted
 pub mod Clauses
 pub mod Raised
 pub mod Written

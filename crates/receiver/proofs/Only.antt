@@ -19,10 +19,6 @@ use Rattle.receiver.proofs.Receiver.confirm.Reads as confirm
 use Rattle.receiver.proofs.Receiver.confirm.Kinds as confirm-kinds
 use Rattle.receiver.proofs.Receiver.write.Reads as write
 use Rattle.receiver.proofs.Receiver.write.Kinds as write-kinds
-use Rattle.receiver.proofs.given.mark_of.Reads as mark-of
-use Rattle.receiver.proofs.given.mark_of.Kinds as mark-of-kinds
-use Rattle.receiver.proofs.given.kind_of.Reads as kind-of
-use Rattle.receiver.proofs.given.kind_of.Kinds as kind-of-kinds
 
 pub consistent-one : OneAnswer 0 consistent-kinds.ps consistent-kinds.r consistent.Post
 consistent-one κs given x y s t p q = p ∙ sym q
@@ -47,9 +43,3 @@ confirm-one κs given x y s t p q = p ∙ sym q
 
 pub write-one : OneBuffer 1 write-kinds.ps write-kinds.r (λ κs s. now (s .1 .1 .1 .0)) write.Post
 write-one κs given x y s t p q = (p .0 ∙ sym (q .0), p .1 ∙ sym (q .1))
-
-pub mark-of-one : OneAnswer 0 mark-of-kinds.ps mark-of-kinds.r mark-of.Post
-mark-of-one κs given x y s t p q = p ∙ sym q
-
-pub kind-of-one : OneAnswer 0 kind-of-kinds.ps kind-of-kinds.r kind-of.Post
-kind-of-one κs given x y s t p q = p ∙ sym q

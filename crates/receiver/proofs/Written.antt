@@ -12,8 +12,8 @@ use Rattle.seen.specs.Received.{seenConsistent}
 use Rattle.ack.specs.Ack.{ackRefusal, ackFrame, acked, ackAnswer, ackBytes}
 use Rattle.seen.proofs.Tests.{by-test}
 use Rattle.receiver.specs.declared.Receiver.{Receiver}
-use Rattle.receiver.specs.declared.Kind.{Kind}
-use Rattle.receiver.specs.Totals.{tailOf}
+use Rattle.ecn.specs.declared.Kind.{Kind}
+use Rattle.ecn.specs.Totals.{tailOf}
 use Rattle.receiver.specs.Record.{restConsistent, consistent}
 use Rattle.receiver.specs.Write.{writeRefusal, afterWrite, answered, writeAnswer, writeBytes}
 

@@ -4,7 +4,7 @@ use mathlib.Core.Path.{_≡_}
 use mathlib.Core.List.{List, [], _∷_}
 use lib.ListN.{replicate}
 use Rattle.receiver.specs.declared.Receiver.{Receiver}
-use Rattle.receiver.specs.declared.Kind.the-variants.{Plain}
+use Rattle.ecn.specs.declared.Kind.the-variants.{Plain}
 use Rattle.receiver.specs.Confirm.{confirmCall}
 use Rattle.receiver.specs.Write.{writeBytes}
 use Rattle.receiver.specs.Examples.{started, arrival, afterFrame}

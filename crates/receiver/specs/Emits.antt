@@ -11,8 +11,8 @@ use Rattle.seen.specs.Received.{reported}
 use Rattle.ack.specs.Ack.{ackDelay, frame, rangesKept}
 use Rattle.ack.specs.Emits.{Emits}
 use Rattle.receiver.specs.declared.Receiver.{Receiver}
-use Rattle.receiver.specs.declared.Kind.{Kind}
-use Rattle.receiver.specs.Totals.{tailOf}
+use Rattle.ecn.specs.declared.Kind.{Kind}
+use Rattle.ecn.specs.Totals.{tailOf}
 use Rattle.receiver.specs.Record.{consistent}
 use Rattle.receiver.specs.Exactly.{Row, row, first, inconsistent}
 use Rattle.receiver.specs.Write.{writeAnswer, writeBytes}

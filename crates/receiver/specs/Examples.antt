@@ -6,8 +6,8 @@ use mathlib.Core.List.{List, [], _∷_}
 use lib.ListN.{replicate}
 use Rattle.receiver.specs.declared.Receiver.{Receiver}
 use Rattle.receiver.specs.declared.Answer.{Answer}
-use Rattle.receiver.specs.declared.Mark.the-variants.{None}
-use Rattle.receiver.specs.declared.Kind.the-variants.{Plain}
+use Rattle.ecn.specs.declared.Mark.the-variants.{None}
+use Rattle.ecn.specs.declared.Kind.the-variants.{Plain}
 use Rattle.receiver.specs.Packet.{packetCall}
 use Rattle.receiver.specs.Calls.{opened}
 use Rattle.receiver.specs.Write.{writeAnswer}

@@ -1,4 +1,3 @@
-pub mod Totals
 pub mod Record
 pub mod Given
 pub mod Consistent

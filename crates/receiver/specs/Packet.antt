@@ -12,8 +12,8 @@ use Rattle.receiver.specs.declared.Pending.{Pending}
 use Rattle.receiver.specs.declared.Agreed.{Agreed}
 use Rattle.receiver.specs.declared.Receiver.{Receiver}
 use Rattle.receiver.specs.declared.Answer.{Answer}
-use Rattle.receiver.specs.declared.Mark.{Mark}
-use Rattle.receiver.specs.Totals.{isCe, totalsAfter}
+use Rattle.ecn.specs.declared.Mark.{Mark}
+use Rattle.ecn.specs.Totals.{isCe, totalsAfter}
 use Rattle.seen.specs.Numbers.{small}
 use Rattle.seen.specs.Received.{numberRefusal, seenAfter, firstMissing, isAny}
 use Rattle.ack.specs.Ack.{numberAt}

@@ -12,7 +12,7 @@ use Rattle.receiver.specs.declared.Pending.{Pending}
 use Rattle.receiver.specs.declared.Agreed.{Agreed}
 use Rattle.receiver.specs.declared.Limits.{Limits}
 use Rattle.receiver.specs.declared.Receiver.{Receiver}
-use Rattle.receiver.specs.Totals.{totalsConsistent}
+use Rattle.ecn.specs.Totals.{totalsConsistent}
 
 -- ---- the two delays, "in different units; each has its own type here"
 

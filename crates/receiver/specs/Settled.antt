@@ -6,7 +6,7 @@ use lib.ListN.{replicate}
 use Rattle.seen.specs.declared.Micros.{Micros}
 use Rattle.receiver.specs.declared.Receiver.{Receiver}
 use Rattle.receiver.specs.declared.Wrote.{Wrote}
-use Rattle.receiver.specs.declared.Kind.the-variants.{Plain, Counts}
+use Rattle.ecn.specs.declared.Kind.the-variants.{Plain, Counts}
 use Rattle.receiver.specs.Write.{writeAnswer, writeBytes}
 use Rattle.receiver.specs.Examples.{started, arrival}
 

@@ -7,8 +7,8 @@ use Rattle.seen.specs.declared.Micros.{Micros}
 use Rattle.ack.specs.Ack.{refusalAfter1, ackFrame, laid}
 use Rattle.receiver.specs.declared.Receiver.{Receiver}
 use Rattle.receiver.specs.declared.Wrote.{Wrote}
-use Rattle.receiver.specs.declared.Kind.{Kind}
-use Rattle.receiver.specs.Totals.{tailOf}
+use Rattle.ecn.specs.declared.Kind.{Kind}
+use Rattle.ecn.specs.Totals.{tailOf}
 use Rattle.receiver.specs.Record.{consistent}
 
 -- ---- xs is the lent buffer, its length the room

@@ -15,8 +15,8 @@ use crate::Limits;
 use crate::Millis;
 use crate::Pending;
 use crate::Receiver;
-use crate::Totals;
 use crate::Verdict;
+use ecn::Totals;
 use seen::Micros;
 use seen::Seen;
 use seen::numbers;
@@ -30,22 +30,6 @@ fn standing(cause: u64, new: u64) -> u64
         0 => new,
         _ => cause,
     }
-}
-
-// Whether four numbers obey 5.
-pub(crate) fn all_small(a: u64, b: u64, c: u64, d: u64) -> bool
-    ensures { λ r. ⌜ r ≡ (small a && (small b && (small c && small d))) ⌝ }
-{
-    if !numbers::is_small(a) {
-        return false;
-    }
-    if !numbers::is_small(b) {
-        return false;
-    }
-    if !numbers::is_small(c) {
-        return false;
-    }
-    numbers::is_small(d)
 }
 
 impl Heard {
@@ -122,7 +106,7 @@ impl Receiver {
     pub fn open(threshold: u64, reordering: u64, maximum: Millis, minimum: Micros) -> Answer
         ensures { λ r. ⌜ r ≡ openCall threshold reordering maximum minimum ⌝ }
     {
-        if !all_small(threshold, reordering, maximum.0, minimum.0) {
+        if !numbers::all_small(threshold, reordering, maximum.0, minimum.0) {
             return Receiver::refused_opening(5);
         }
         let limits = Limits { maximum, minimum };
@@ -209,7 +193,7 @@ impl Receiver {
         if !self.consistent() {
             return Heard::refused(1, self);
         }
-        if !all_small(sequence, threshold, delay.0, reordering) {
+        if !numbers::all_small(sequence, threshold, delay.0, reordering) {
             return Heard::refused(5, self);
         }
         let limits = self.limits;

@@ -2,6 +2,7 @@
 // Carries "The receiver record" of document 01 (RFC 9000 section 13.2, ACK Frequency version 14).
 // Each call takes the record by value and hands the next one back; a refused call hands it back as it came.
 ghost use mathlib.Core.Path.{_≡_};
+use ecn::Totals;
 use seen::Micros;
 use seen::Seen;
 
@@ -10,41 +11,12 @@ mod causes;
 mod confirm;
 mod consistent;
 mod delays;
-mod ecn;
-pub mod given;
 mod packet;
 mod write;
 
 // Milliseconds: the own maximum delay, as max_ack_delay is announced (RFC 9000 18.2).
 #[repr(C)]
 pub struct Millis(pub u64);
-
-// The ECN mark that a packet carried (RFC 3168), none being the fourth (02, No. 2).
-pub enum Mark {
-    None,
-    Ect0,
-    Ect1,
-    Ce,
-}
-
-// The ACK that the caller of write chose: type 02, or type 03 with the counts (RFC 9000 19.3.2).
-pub enum Kind {
-    Plain,
-    Counts,
-}
-
-// How many accepted packets, of both kinds, carried each mark; at 2^62 - 1 a total stays.
-#[repr(C)]
-pub struct Totals {
-    // These were marked ECT(0).
-    pub ect0: u64,
-    // These were marked ECT(1).
-    pub ect1: u64,
-    // These were marked CE.
-    pub ce: u64,
-    // These had no mark.
-    pub unmarked: u64,
-}
 
 // What may be absent is kept as an end: one past the number, and 0 for none.
 

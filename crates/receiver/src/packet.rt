@@ -7,9 +7,9 @@ ghost use Rattle.wire.specs.Numbers.{limit};
 ghost use Rattle.receiver.specs.Record.{consistent};
 ghost use Rattle.receiver.specs.Packet.{pendingAfter, packetAfter, packetCall};
 use crate::Answer;
-use crate::Mark;
 use crate::Pending;
 use crate::Receiver;
+use ecn::Mark;
 use seen::Micros;
 use seen::numbers;
 

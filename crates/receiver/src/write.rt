@@ -1,10 +1,10 @@
 // The write call: the ACK frame of what was received, and nothing is left to acknowledge.
 ghost use mathlib.Core.Path.{_≡_};
 ghost use Rattle.receiver.specs.Write.{afterWrite, writeAnswer, writeBytes};
-use crate::Kind;
 use crate::Pending;
 use crate::Receiver;
 use crate::Wrote;
+use ecn::Kind;
 use seen::Micros;
 
 impl Wrote {

@@ -4,6 +4,8 @@ use mathlib.Core.Path.{sym, _∙_}
 use Rattle.wire.proofs.Only.{OneAnswer}
 use Rattle.seen.proofs.numbers.is_small.Reads as is-small
 use Rattle.seen.proofs.numbers.is_small.Kinds as is-small-kinds
+use Rattle.seen.proofs.numbers.all_small.Reads as all-small
+use Rattle.seen.proofs.numbers.all_small.Kinds as all-small-kinds
 use Rattle.seen.proofs.numbers.is_small_end.Reads as is-small-end
 use Rattle.seen.proofs.numbers.is_small_end.Kinds as is-small-end-kinds
 use Rattle.seen.proofs.numbers.minus_or_zero.Reads as minus-or-zero
@@ -27,6 +29,9 @@ use Rattle.seen.proofs.Seen.first_missing.Kinds as first-missing-kinds
 
 pub is-small-one : OneAnswer 0 is-small-kinds.ps is-small-kinds.r is-small.Post
 is-small-one κs given x y s t p q = p ∙ sym q
+
+pub all-small-one : OneAnswer 0 all-small-kinds.ps all-small-kinds.r all-small.Post
+all-small-one κs given x y s t p q = p ∙ sym q
 
 pub is-small-end-one : OneAnswer 0 is-small-end-kinds.ps is-small-end-kinds.r is-small-end.Post
 is-small-end-one κs given x y s t p q = p ∙ sym q

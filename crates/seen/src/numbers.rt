@@ -1,5 +1,6 @@
 // Numbers, times and ends: which are small enough, and arithmetic that stays in range.
 ghost use mathlib.Core.Path.{_≡_};
+ghost use mathlib.Core.Bool.{_&&_};
 ghost use Prim.Native.Nat.{_+_, _-_, max, min};
 ghost use Rattle.seen.specs.Numbers.{small, smallEnd};
 
@@ -14,6 +15,22 @@ pub fn is_small(n: u64) -> bool
     ensures { λ r. ⌜ r ≡ small n ⌝ }
 {
     n <= LIMIT
+}
+
+// Whether four numbers obey 5.
+pub fn all_small(a: u64, b: u64, c: u64, d: u64) -> bool
+    ensures { λ r. ⌜ r ≡ (small a && (small b && (small c && small d))) ⌝ }
+{
+    if !is_small(a) {
+        return false;
+    }
+    if !is_small(b) {
+        return false;
+    }
+    if !is_small(c) {
+        return false;
+    }
+    is_small(d)
 }
 
 // Whether an end is at most one past the largest number; N may be as large.

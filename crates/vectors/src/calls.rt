@@ -1,8 +1,8 @@
 // One line for each call: what it is given, and what it answers.
 // A room is at most the buffer that it is taken from: io::count keeps it within.
 use crate::show;
-use receiver::Kind;
-use receiver::Mark;
+use ecn::Kind;
+use ecn::Mark;
 use receiver::Receiver;
 use seen::Micros;
 

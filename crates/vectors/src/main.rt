@@ -5,7 +5,7 @@ mod calls;
 mod show;
 
 use calls::Reader;
-use receiver::Mark;
+use ecn::Mark;
 use receiver::Millis;
 use receiver::Receiver;
 use seen::Micros;

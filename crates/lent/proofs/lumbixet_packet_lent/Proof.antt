@@ -43,8 +43,9 @@ use denote.Triple.Walked.{says, Stays, stay-ref, stay-none, walkOf, goes-none, g
 use denote.Exit.{yes}
 use Rattle.receiver.specs.declared.Receiver.{Receiver}
 use Rattle.receiver.specs.declared.Answer.{Answer}
-use Rattle.receiver.specs.declared.Mark.{Mark}
-use Rattle.receiver.specs.Given.{micros, markOf}
+use Rattle.ecn.specs.declared.Mark.{Mark}
+use Rattle.ecn.specs.Given.{markOf}
+use Rattle.receiver.specs.Given.{micros}
 use Rattle.receiver.specs.Packet.{packetCall}
 use Rattle.receiver.proofs.Receiver as T
 use Rattle.receiver.proofs.Receiver.Laws as T′
@@ -52,12 +53,12 @@ use Rattle.receiver.proofs.Answer as U
 use Rattle.receiver.proofs.Answer.Laws as U′
 use Rattle.seen.proofs.Micros as Time
 use Rattle.seen.proofs.Micros.Laws as Time′
-use Rattle.receiver.proofs.Mark as K
-use Rattle.receiver.proofs.Mark.Laws as K′
-use Rattle.receiver.proofs.given.mark_of as m
-use Rattle.receiver.proofs.given.mark_of.Symbol as m-def
-use Rattle.receiver.proofs.given.mark_of.Symbol.{name as #m}
-use Rattle.receiver.proofs.given.mark_of.Met as m-thm
+use Rattle.ecn.proofs.Mark as K
+use Rattle.ecn.proofs.Mark.Laws as K′
+use Rattle.ecn.proofs.given.mark_of as m
+use Rattle.ecn.proofs.given.mark_of.Symbol as m-def
+use Rattle.ecn.proofs.given.mark_of.Symbol.{name as #m}
+use Rattle.ecn.proofs.given.mark_of.Met as m-thm
 use Rattle.receiver.proofs.Receiver.packet as g
 use Rattle.receiver.proofs.Receiver.packet.Symbol as g-def
 use Rattle.receiver.proofs.Receiver.packet.Symbol.{name as #g}
@@ -189,5 +190,5 @@ lumbixet-packet-lent-spec 𝓤 H 𝓜 𝓖 𝓡 =
     entered 𝓤 H (tripleOf 𝓤 H (𝓖 .A) f.signature (f.spec 𝓤 H (𝓖 .A) (𝓜 .mem) (𝓡 .run)))
     (tables 𝓤 H 𝓜 𝓡 code.env .C) (tables 𝓤 H 𝓜 𝓡 code.env .Λ) #f code.function (code.unfolded 𝓤 H 𝓜 𝓡)
     (f-meets 𝓤 H (𝓖 .A) (givenOf 𝓤 H 𝓜 𝓖) (𝓜 .mem) (𝓡 .run) (tablesOf 𝓤 H 𝓜 (tables 𝓤 H 𝓜 𝓡 code.env))
-    (cited 𝓤 H (N 𝓤 H (𝓖 .A) (𝓜 .mem) (𝓡 .run)) 𝓜 𝓡 code.env #m m-def.routine code.calls-receiver·given·mark-of (m-thm.met 𝓤 H 𝓜 𝓖 𝓡))
+    (cited 𝓤 H (N 𝓤 H (𝓖 .A) (𝓜 .mem) (𝓡 .run)) 𝓜 𝓡 code.env #m m-def.routine code.calls-ecn·given·mark-of (m-thm.met 𝓤 H 𝓜 𝓖 𝓡))
     (cited 𝓤 H (G 𝓤 H (𝓖 .A) (𝓜 .mem) (𝓡 .run)) 𝓜 𝓡 code.env #g g-def.routine code.calls-receiver·Receiver·packet (g-thm.met 𝓤 H 𝓜 𝓖 𝓡)))

@@ -45,8 +45,9 @@ use denote.Triple.Walked.{says, Stays, stay-ref, stay-none, gave-slice, walkOf, 
 use denote.Exit.{yes}
 use Rattle.receiver.specs.declared.Receiver.{Receiver}
 use Rattle.receiver.specs.declared.Wrote.{Wrote}
-use Rattle.receiver.specs.declared.Kind.{Kind}
-use Rattle.receiver.specs.Given.{micros, kindOf}
+use Rattle.ecn.specs.declared.Kind.{Kind}
+use Rattle.ecn.specs.Given.{kindOf}
+use Rattle.receiver.specs.Given.{micros}
 use Rattle.receiver.specs.Write.{writeAnswer, writeBytes}
 use Rattle.lent.specs.Lent.{wroteLent}
 use Rattle.receiver.proofs.Receiver as T
@@ -57,12 +58,12 @@ use Rattle.seen.proofs.Micros as Time
 use Rattle.seen.proofs.Micros.Laws as Time′
 use Rattle.lent.proofs.WroteLent as O
 use Rattle.lent.proofs.WroteLent.Laws as O′
-use Rattle.receiver.proofs.Kind as K
-use Rattle.receiver.proofs.Kind.Laws as K′
-use Rattle.receiver.proofs.given.kind_of as m
-use Rattle.receiver.proofs.given.kind_of.Symbol as m-def
-use Rattle.receiver.proofs.given.kind_of.Symbol.{name as #m}
-use Rattle.receiver.proofs.given.kind_of.Met as m-thm
+use Rattle.ecn.proofs.Kind as K
+use Rattle.ecn.proofs.Kind.Laws as K′
+use Rattle.ecn.proofs.given.kind_of as m
+use Rattle.ecn.proofs.given.kind_of.Symbol as m-def
+use Rattle.ecn.proofs.given.kind_of.Symbol.{name as #m}
+use Rattle.ecn.proofs.given.kind_of.Met as m-thm
 use Rattle.receiver.proofs.Receiver.write as g
 use Rattle.receiver.proofs.Receiver.write.Symbol as g-def
 use Rattle.receiver.proofs.Receiver.write.Symbol.{name as #g}
@@ -207,5 +208,5 @@ lumbixet-write-lent-spec 𝓤 H 𝓜 𝓖 𝓡 =
     entered 𝓤 H (tripleOf 𝓤 H (𝓖 .A) f.signature (f.spec 𝓤 H (𝓖 .A) (𝓜 .mem) (𝓡 .run)))
     (tables 𝓤 H 𝓜 𝓡 code.env .C) (tables 𝓤 H 𝓜 𝓡 code.env .Λ) #f code.function (code.unfolded 𝓤 H 𝓜 𝓡)
     (f-meets 𝓤 H (𝓖 .A) (givenOf 𝓤 H 𝓜 𝓖) (𝓜 .mem) (𝓡 .run) (tablesOf 𝓤 H 𝓜 (tables 𝓤 H 𝓜 𝓡 code.env))
-    (cited 𝓤 H (N 𝓤 H (𝓖 .A) (𝓜 .mem) (𝓡 .run)) 𝓜 𝓡 code.env #m m-def.routine code.calls-receiver·given·kind-of (m-thm.met 𝓤 H 𝓜 𝓖 𝓡))
+    (cited 𝓤 H (N 𝓤 H (𝓖 .A) (𝓜 .mem) (𝓡 .run)) 𝓜 𝓡 code.env #m m-def.routine code.calls-ecn·given·kind-of (m-thm.met 𝓤 H 𝓜 𝓖 𝓡))
     (cited 𝓤 H (G 𝓤 H (𝓖 .A) (𝓜 .mem) (𝓡 .run)) 𝓜 𝓡 code.env #g g-def.routine code.calls-receiver·Receiver·write (g-thm.met 𝓤 H 𝓜 𝓖 𝓡)))

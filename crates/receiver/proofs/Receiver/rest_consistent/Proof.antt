@@ -3,7 +3,7 @@
 use mathlib.Core.Path.{_≡_, refl}
 use mathlib.Core.Bool.{true}
 use borrow.Author.Tests.{le-leb, lt-leb, eq-eqb, ne-eqb}
-use Rattle.receiver.specs.Totals.{totalsConsistent}
+use Rattle.ecn.specs.Totals.{totalsConsistent}
 use Rattle.receiver.specs.Record.{limitsRule, pendingConsistent, agreedConsistent}
 use Rattle.seen.proofs.Tests.{failed, held}
 use borrow.Author.Needs.{needs}

@@ -8,10 +8,10 @@ use borrow.Author.Tests.{not-true, not-false}
 use Rattle.wire.specs.Bytes.{pick}
 use Rattle.seen.specs.declared.Micros.{Micros}
 use Rattle.seen.specs.declared.Seen.{Seen}
-use Rattle.receiver.specs.declared.Mark.{Mark}
-use Rattle.receiver.specs.declared.Totals.{Totals}
+use Rattle.ecn.specs.declared.Mark.{Mark}
+use Rattle.ecn.specs.declared.Totals.{Totals}
 use Rattle.receiver.specs.declared.Receiver.{Receiver}
-use Rattle.receiver.specs.Totals.{isCe, totalsAfter}
+use Rattle.ecn.specs.Totals.{isCe, totalsAfter}
 use Rattle.seen.specs.Received.{seenAfter}
 use Rattle.seen.proofs.After.{with-small}
 use Rattle.receiver.specs.Packet.{packetAfter}

@@ -1,9 +1,9 @@
--- `receiver::Totals::obey` meets its contract: the four tests are one call.
+-- `ecn::counts::Totals::obey` meets its contract: the four tests are one call.
 -- Assumes nothing.
-use Rattle.receiver.specs.Totals.{totalsConsistent}
+use Rattle.ecn.specs.Totals.{totalsConsistent}
 use borrow.Author.Needs.{needs}
-use Rattle.receiver.proofs.Totals.obey.Statement.{statement}
-use Rattle.receiver.proofs.Totals.obey.Tie as tie
+use Rattle.ecn.proofs.Totals.obey.Statement.{statement}
+use Rattle.ecn.proofs.Totals.obey.Tie as tie
 
 all-small-requires : tie.Need-all-small-requires
 all-small-requires c κs = search needs

@@ -1,9 +1,9 @@
--- `receiver::Totals::counted` meets its contract: one law for each mark.
+-- `ecn::counts::Totals::counted` meets its contract: one law for each mark.
 -- Assumes nothing.
-use Rattle.receiver.proofs.Counted.{unmarked-more, ect0-more, ect1-more, ce-more}
+use Rattle.ecn.proofs.Counted.{unmarked-more, ect0-more, ect1-more, ce-more}
 use borrow.Author.Needs.{needs}
-use Rattle.receiver.proofs.Totals.counted.Statement.{statement}
-use Rattle.receiver.proofs.Totals.counted.Tie as tie
+use Rattle.ecn.proofs.Totals.counted.Statement.{statement}
+use Rattle.ecn.proofs.Totals.counted.Tie as tie
 
 enum-told : tie.Need-enum-told
 enum-told c = search needs

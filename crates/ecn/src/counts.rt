@@ -2,12 +2,12 @@
 ghost use mathlib.Core.Path.{_≡_};
 ghost use Prim.Native.Nat.{_+_, min};
 ghost use Rattle.wire.specs.Numbers.{limit};
-ghost use Rattle.receiver.specs.Totals.{isCe, totalsConsistent, totalsAfter, tailOf};
+ghost use Rattle.ecn.specs.Totals.{isCe, totalsConsistent, totalsAfter, tailOf};
 use crate::Kind;
 use crate::Mark;
 use crate::Totals;
-use crate::calls;
 use frames::Tail;
+use seen::numbers;
 
 // A total with one packet more; at 2^62 - 1 it stays.
 fn one_more(total: u64) -> u64
@@ -20,7 +20,7 @@ fn one_more(total: u64) -> u64
 }
 
 impl Mark {
-    pub(crate) fn is_ce(self) -> bool
+    pub fn is_ce(self) -> bool
         ensures { λ r. ⌜ r ≡ isCe self ⌝ }
     {
         match self {
@@ -33,14 +33,14 @@ impl Mark {
 }
 
 impl Totals {
-    pub(crate) fn obey(self) -> bool
+    pub fn obey(self) -> bool
         ensures { λ r. ⌜ r ≡ totalsConsistent self ⌝ }
     {
-        calls::all_small(self.ect0, self.ect1, self.ce, self.unmarked)
+        numbers::all_small(self.ect0, self.ect1, self.ce, self.unmarked)
     }
 
     // With one accepted packet more that carried the mark.
-    pub(crate) fn counted(self, mark: Mark) -> Totals
+    pub fn counted(self, mark: Mark) -> Totals
         ensures { λ r. ⌜ r ≡ totalsAfter self mark ⌝ }
     {
         let mut next = self;
@@ -62,7 +62,7 @@ impl Totals {
     }
 
     // What an ACK of that type has after its ranges: the totals as they stand.
-    pub(crate) fn said(self, kind: Kind) -> Tail
+    pub fn said(self, kind: Kind) -> Tail
         ensures { λ r. ⌜ r ≡ tailOf kind self ⌝ }
     {
         match kind {

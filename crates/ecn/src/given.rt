@@ -1,6 +1,6 @@
 // What a host gives as a plain number or as a truth value, and the enum that the calls take for it.
 ghost use mathlib.Core.Path.{_≡_};
-ghost use Rattle.receiver.specs.Given.{markOf, kindOf};
+ghost use Rattle.ecn.specs.Given.{markOf, kindOf};
 use crate::Kind;
 use crate::Mark;
 

@@ -1,9 +1,9 @@
--- `receiver::given::mark_of` meets its contract: the arm taken is the code's.
+-- `ecn::given::mark_of` meets its contract: the arm taken is the code's.
 -- Assumes nothing.
 use borrow.Author.Tests.{ne-eqb}
-use Rattle.receiver.specs.Given.{markOf}
-use Rattle.receiver.proofs.given.mark_of.Statement.{statement}
-use Rattle.receiver.proofs.given.mark_of.Tie as tie
+use Rattle.ecn.specs.Given.{markOf}
+use Rattle.ecn.proofs.given.mark_of.Statement.{statement}
+use Rattle.ecn.proofs.given.mark_of.Tie as tie
 
 returns : tie.Need-returns
 unfolding markOf

@@ -1,9 +1,9 @@
--- `receiver::calls::all_small` meets its contract: its tests are the conjunction's, in its order.
+-- `seen::numbers::all_small` meets its contract: its tests are the conjunction's, in its order.
 -- Assumes nothing.
 use Rattle.seen.proofs.Tests.{failed, held}
 use borrow.Author.Needs.{needs}
-use Rattle.receiver.proofs.calls.all_small.Statement.{statement}
-use Rattle.receiver.proofs.calls.all_small.Tie as tie
+use Rattle.seen.proofs.numbers.all_small.Statement.{statement}
+use Rattle.seen.proofs.numbers.all_small.Tie as tie
 
 is-small-requires : tie.Need-is-small-requires
 is-small-requires c κs = search needs

@@ -1,9 +1,9 @@
--- `receiver::Totals::said` meets its contract: nothing, or the totals.
+-- `ecn::counts::Totals::said` meets its contract: nothing, or the totals.
 -- Assumes nothing.
-use Rattle.receiver.proofs.Counted.{counts-said}
+use Rattle.ecn.proofs.Counted.{counts-said}
 use borrow.Author.Needs.{needs}
-use Rattle.receiver.proofs.Totals.said.Statement.{statement}
-use Rattle.receiver.proofs.Totals.said.Tie as tie
+use Rattle.ecn.proofs.Totals.said.Statement.{statement}
+use Rattle.ecn.proofs.Totals.said.Tie as tie
 
 enum-told : tie.Need-enum-told
 enum-told c = search needs

@@ -5,11 +5,11 @@ use Rattle.wire.specs.Numbers.{limit}
 use Rattle.frames.specs.declared.Tail.{Tail}
 use Rattle.frames.specs.declared.Tail.the-variants.{Nothing, Counts}
 use Rattle.seen.specs.Numbers.{small}
-use Rattle.receiver.specs.declared.Mark.{Mark}
-use Rattle.receiver.specs.declared.Mark.the-variants.{None, Ect0, Ect1, Ce}
-use Rattle.receiver.specs.declared.Kind.{Kind}
-use Rattle.receiver.specs.declared.Kind.the-variants.{Plain, Counts as WithCounts}
-use Rattle.receiver.specs.declared.Totals.{Totals}
+use Rattle.ecn.specs.declared.Mark.{Mark}
+use Rattle.ecn.specs.declared.Mark.the-variants.{None, Ect0, Ect1, Ce}
+use Rattle.ecn.specs.declared.Kind.{Kind}
+use Rattle.ecn.specs.declared.Kind.the-variants.{Plain, Counts as WithCounts}
+use Rattle.ecn.specs.declared.Totals.{Totals}
 
 -- "Packets carry one of four marks, none being the fourth": whether it is CE
 abbrev pub isCe : Mark → Bool

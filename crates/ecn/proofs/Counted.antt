@@ -3,12 +3,12 @@
 use Prim.Native.Nat.{ℕ}
 use mathlib.Core.Path.{_≡_, refl}
 use Rattle.frames.specs.declared.Tail.the-variants.{Counts}
-use Rattle.receiver.specs.declared.Mark.{Mark}
-use Rattle.receiver.specs.declared.Mark.the-variants.{None, Ect0, Ect1, Ce}
-use Rattle.receiver.specs.declared.Kind.{Kind}
-use Rattle.receiver.specs.declared.Kind.the-variants.{Counts as WithCounts}
-use Rattle.receiver.specs.declared.Totals.{Totals}
-use Rattle.receiver.specs.Totals.{oneMore, totalsAfter, tailOf}
+use Rattle.ecn.specs.declared.Mark.{Mark}
+use Rattle.ecn.specs.declared.Mark.the-variants.{None, Ect0, Ect1, Ce}
+use Rattle.ecn.specs.declared.Kind.{Kind}
+use Rattle.ecn.specs.declared.Kind.the-variants.{Counts as WithCounts}
+use Rattle.ecn.specs.declared.Totals.{Totals}
+use Rattle.ecn.specs.Totals.{oneMore, totalsAfter, tailOf}
 
 module _ (t : Totals) {mark : Mark} {n : ℕ} where
   pub unmarked-more : mark ≡ None → n ≡ oneMore (t .unmarked) → record { ect0 = t .ect0; ect1 = t .ect1; ce = t .ce; unmarked = n } ≡ totalsAfter t mark
