@@ -1,7 +1,7 @@
 -- One record: its fields as the code reads them, its status and its zero bytes as one field of four bytes.
 -- Assumes nothing.
 use Prim.Native.Nat.{ℕ, _+_, _-_, _*_, _/_, _%_, _^_, _≤_, _<_}
-use mathlib.Core.Path.{_≡_, sym, ap, _∙_}
+use mathlib.Core.Path.{_≡_, refl, sym, ap, _∙_}
 use mathlib.Core.List.{List, [], _∷_}
 use native.Mathlib.Nat.{add-mul, mul-assoc, pow-succ'}
 use native.Mathlib.Omega.{arith}
@@ -16,10 +16,13 @@ use Rattle.wire.proofs.Bytes.{bound, octets-part}
 use Rattle.wire.proofs.Lengths.{split}
 use Rattle.entries.specs.Limits.{entrySize}
 use Rattle.entries.specs.Profiles.{groupBytes, recordSize}
-use Rattle.entries.specs.Entries.{groupOf, objectOf, statusOf, zerosOf, ageOf, entryFrom, entryBehind, entryOf, recordAt, entryAt}
+use Rattle.entries.specs.Entries.{groupOf, objectOf, statusOf, zerosOf, ageOf, entryBehind, entryOf, recordAt, entryAt}
+use Rattle.entries.specs.Steps.{partsIn}
 use Rattle.entries.specs.declared.Profile.{Profile}
+use Rattle.entries.specs.declared.Profile.the-variants.{Two}
 use Rattle.entries.specs.declared.Entry.{Entry}
 use Rattle.entries.specs.declared.Entry.the-variants.{Ends}
+use Rattle.entries.specs.declared.Parts.the-variants.{There, Short}
 use Rattle.entries.proofs.Sizes.{step, there, not-there}
 use Rattle.entries.proofs.Profiles.{sized}
 
@@ -29,12 +32,18 @@ too-short group b h = rw (lt-leb entrySize (length b) h)
 
 -- ---- the part that the code lends is the record; size is what the code has for its size, n for how many there are
 module _ (p : Profile) (s : List ℕ) (i : ℕ) where
+  pub record-is : (size : ℕ) → size ≡ recordSize p → take (i * size + size - i * size) (drop (i * size) s) ≡ recordAt p s i
+  record-is size e = let l : i * size + size - i * size ≡ size = omega arith in rw (l, e)
+
   pub part-is : (size : ℕ) → size ≡ recordSize p → entryOf p (take (i * size + size - i * size) (drop (i * size) s)) ≡ entryAt p s i
-  part-is size e = let l : i * size + size - i * size ≡ size = omega arith in rw (l, e)
+  part-is size e = ap (entryOf p) (record-is size e)
 
   module _ (n : ℕ) (m : n ≡ length s / recordSize p) where
     pub part-there : (size : ℕ) → size ≡ recordSize p → i < n → i * size + size ≤ length s
     part-there size e h = rw (e, step (recordSize p) i) (there (recordSize p) (sized p) (length s) i (rw m at h))
+
+    pub record-long : i < n → length (recordAt p s i) ≡ recordSize p
+    record-long h = let t = part-there (recordSize p) refl h in length-take-le (recordSize p) (drop (i * recordSize p) s) (rw (length-drop) (omega arith))
 
     pub ends-at : n ≤ i → Ends ≡ entryAt p s i
     ends-at h =
@@ -63,6 +72,10 @@ pub field-is : (len : ℕ) (s : List ℕ) (at : ℕ) (n : Fixed) (v next : ℕ) 
 field-is len s at n v next h t e =
     let f : Value v next ≡ Value (be 0 (take len (drop at s))) (at + len) = sym t ∙ e ∙ fixed-there len s at h in
     cc
+
+-- what comes behind the first bytes, as the code lends it
+pub behind-is : (k : ℕ) (b : List ℕ) → take (length b - k) (drop k b) ≡ drop k b
+behind-is k b = take-all (length b - k) (drop k b) (rw (length-drop) (omega arith))
 
 be-more : (bs : List ℕ) (acc : ℕ) → be acc bs ≡ acc * 256 ^ length bs + be 0 bs
 be-more [] acc = omega arith
@@ -94,13 +107,13 @@ module _ (b : List ℕ) (o : Octets b) (h : entrySize ≤ length b) where
   pub mark-zeros : be 0 (take 4 (drop 8 b)) % 16777216 ≡ zerosOf b
   mark-zeros = omega (arith, mark-is, zeros-small)
 
--- r is what the judge of the fields answers
-pub entry-is : (group : ℕ) (b : List ℕ) (r : Entry) (object mark age : ℕ) → Octets b → entrySize ≤ length b → object ≡ objectOf b → mark ≡ be 0 (take 4 (drop 8 b)) → age ≡ ageOf b
-    → r ≡ entryFrom group object (mark / 16777216) (mark % 16777216) age → r ≡ entryBehind group b
-unfolding entryBehind
-entry-is group b r object mark age o h p q t e =
-    rw (le-leb entrySize (length b) h)
-    (e ∙ rw (p, q, t, mark-status b o h, mark-zeros b o h))
+-- what the code read of the fields are the parts
+pub parts-are : (b : List ℕ) (object mark age : ℕ) → Octets b → entrySize ≤ length b → object ≡ objectOf b → mark ≡ be 0 (take 4 (drop 8 b)) → age ≡ ageOf b
+    → There object (mark / 16777216) (mark % 16777216) age ≡ partsIn b
+parts-are b object mark age o h p q t = rw (le-leb entrySize (length b) h, p, q, t, mark-status b o h, mark-zeros b o h)
+
+pub parts-missing : (b : List ℕ) → length b < entrySize → Short ≡ partsIn b
+parts-missing b h = rw (lt-leb entrySize (length b) h)
 
 -- ---- a record: its group, where the profile has one, then the rest
 
@@ -134,5 +147,22 @@ module _ (p : Profile) (b : List ℕ) (n : Fixed) (e : n ≡ readFixed (groupByt
     pub group-is : (r : Entry) → r ≡ entryBehind v (take (length b - next) (drop next b)) → r ≡ entryOf p b
     group-is r f =
         let g : v ≡ groupOf p b = field-is (groupBytes p) b 0 n v next (omega (arith, group-fits)) t e in
-        let d : take (length b - next) (drop next b) ≡ drop next b = take-all (length b - next) (drop next b) (rw (length-drop) (omega arith)) in
-        f ∙ rw (d, g, next-is)
+        f ∙ rw (behind-is next b, g, next-is)
+
+-- ---- the records of profile 2 as the loop over them has them
+module _ (s : List ℕ) (i : ℕ) where
+  abbrev lent : List ℕ
+  lent = take (i * 24 + 24 - i * 24) (drop (i * 24) s)
+
+  pub behind-is-rest : take (length lent - 8) (drop 8 lent) ≡ drop 8 (recordAt Two s i)
+  behind-is-rest = behind-is 8 lent ∙ ap (drop 8) (record-is Two s i 24 refl)
+
+  module _ (n : ℕ) (m : n ≡ length s / recordSize Two) (h : i < n) where
+    enough : 8 ≤ length lent
+    enough = rw (record-is Two s i 24 refl) (omega (arith, record-long Two s i n m h))
+
+    pub group-there-first : {A : Type 0} (x : Fixed) → x ≡ FixedEnds → x ≡ readFixed 8 lent 0 → A
+    group-there-first x t e = never-ends 8 lent 0 x (omega (arith, enough)) t e
+
+    pub group-is-first : (x : Fixed) (v next : ℕ) → x ≡ Value v next → x ≡ readFixed 8 lent 0 → v ≡ groupOf Two (recordAt Two s i)
+    group-is-first x v next t e = field-is 8 lent 0 x v next (omega (arith, enough)) t e ∙ ap (groupOf Two) (record-is Two s i 24 refl)

@@ -2,6 +2,7 @@ pub mod Sizes
 pub mod Profiles
 pub mod Fields
 pub mod Order
+pub mod Steps
 pub mod Records
 pub mod Verdicts
 pub mod Largest

@@ -3,25 +3,22 @@
 use Prim.Native.Nat.{ℕ, suc, _+_, _-_, _*_, _/_, _%_, _≤_, _<_}
 use mathlib.Core.Path.{_≡_, refl, sym, ap, _∙_}
 use mathlib.Core.Bool.{Bool, true, false}
-use mathlib.Core.Logic.{_⊎_, ⊎-elim}
 use mathlib.Core.List.{List}
 use native.Mathlib.Nat.{zero-mul, mul-mod-left, div-add-mod', div-mul-le-self}
-use native.Mathlib.Numerals.{add-one}
 use native.Mathlib.Omega.{arith}
-use borrow.Author.Tests.{le-leb, lt-leb, eq-eqb, ne-eqb, eqb-false}
-use denote.Enum.Declared.{tagOf}
+use borrow.Author.Tests.{le-leb, lt-leb, eq-eqb, ne-eqb}
 use lib.ListN.{length, drop}
 use lib.Seq.{drop-drop}
 use Rattle.wire.specs.Bytes.{pick}
 use Rattle.entries.specs.Limits.{mostGiven}
 use Rattle.entries.specs.Profiles.{recordSize}
-use Rattle.entries.specs.Entries.{entryAt, atOrAbove, follows, recordsGood, entriesGood, entriesFault}
+use Rattle.entries.specs.Entries.{groupOf, behind, entryBehind, recordAt, entryAt, follows, recordsGood, entriesGood, entriesFault}
+use Rattle.entries.specs.Steps.{inside, floorOf, nextOf}
 use Rattle.entries.specs.declared.Profile.{Profile}
-use Rattle.entries.specs.declared.Status.{Status}
-use Rattle.entries.specs.declared.Entry.{Entry}
-use Rattle.entries.specs.declared.Entry.the-variants.{Record, Ends, Broken, OtherProfile}
-use Rattle.entries.proofs.Entry.{the-type}
+use Rattle.entries.specs.declared.Next.{Next}
+use Rattle.entries.specs.declared.Next.the-variants.{From, Stop}
 use Rattle.entries.proofs.Sizes.{step}
+use Rattle.entries.proofs.Steps.{followed, step-is}
 
 -- ---- one record more
 
@@ -74,27 +71,21 @@ module _ (p : Profile) (s : List ℕ) (n : ℕ) (m : n ≡ length s / recordSize
           let k : length s / recordSize p ≤ mostGiven = rw m at l in
           ap (λ (b : Bool). pick b 0 12) f ∙ rw (eq-eqb (length s % recordSize p) 0 even, le-leb (length s / recordSize p) mostGiven k)
 
--- an answer that is no record
-no-record : (e : Entry) (last above : ℕ) (f : ℕ → ℕ → Bool) → (tagOf the-type e ≡ 1) ⊎ ((tagOf the-type e ≡ 2) ⊎ (tagOf the-type e ≡ 3)) → follows last above e f ≡ false
-no-record (Record group object status age) last above f t = ⊎-elim (λ z. absurd (eqb-false 0 1 refl z)) (⊎-elim (λ z. absurd (eqb-false 0 2 refl z)) (λ z. absurd (eqb-false 0 3 refl z))) t
-no-record Ends last above f t = refl
-no-record Broken last above f t = refl
-no-record OtherProfile last above f t = refl
+-- one step of the code over record i, whose group is g; R is the answer of the whole
+module _ (p : Profile) (s : List ℕ) (n last above i : ℕ) (R : Bool) (h : i < n) (inv : rest p n i s last above ≡ R) (g : ℕ) (q : g ≡ groupOf p (recordAt p s i)) where
+  here : pick (inside last g) (followed (nextOf (floorOf last above g) (entryBehind 0 (behind p (recordAt p s i)))) (rest p n (i + 1) s g)) false ≡ R
+  here = rw q (sym (step-is last above (groupOf p (recordAt p s i)) (behind p (recordAt p s i)) (rest p n (i + 1) s)) ∙ sym (turn p n last above i s h) ∙ inv)
 
--- e is what the code read of record i, and R the answer of the whole
-module _ (p : Profile) (s : List ℕ) (n last above i : ℕ) (R : Bool) (e : Entry) (h : i < n) (g : e ≡ entryAt p s i)
-    (inv : rest p n i s last above ≡ R) where
-  here : follows last above e (rest p n (i + 1) s) ≡ R
-  here =
-      ap (λ (x : Entry). follows last above x (rest p n (i + 1) s)) g
-      ∙ sym (turn p n last above i s h) ∙ inv
+  pub stop-group : inside last g ≡ false → false ≡ R
+  stop-group l = rw l at here
 
-  pub stop-broken : (tagOf the-type e ≡ 1) ⊎ ((tagOf the-type e ≡ 2) ⊎ (tagOf the-type e ≡ 3)) → false ≡ R
-  stop-broken t = sym (no-record e last above (rest p n (i + 1) s) t) ∙ here
+  -- x is what it leaves to the next; floor and b are what the code has for the floor and the bytes behind the group
+  module _ (l : inside last g ≡ true) (floor : ℕ) (f : floor ≡ floorOf last above g) (b : List ℕ) (d : b ≡ behind p (recordAt p s i)) (x : Next) (e : x ≡ nextOf floor (entryBehind 0 b)) where
+    on : followed x (rest p n (i + 1) s g) ≡ R
+    on = rw (e, f, d) (rw l at here)
 
-  module _ (group object : ℕ) (status : Status) (age : ℕ) (t : e ≡ Record group object status age) where
-    pub stop-order : atOrAbove last above group object ≡ false → false ≡ R
-    stop-order l = rw (t, l) at here
+    pub stop-object : x ≡ Stop → false ≡ R
+    stop-object t = rw t at on
 
-    pub more-record : atOrAbove last above group object ≡ true → rest p n (i + 1) s group (object + 1) ≡ R
-    more-record l = rw (add-one object) (rw (t, l) at here)
+    pub more-record : (m : ℕ) → x ≡ From m → rest p n (i + 1) s g m ≡ R
+    more-record m t = rw t at on

@@ -13,12 +13,16 @@ use Rattle.wire.specs.Numbers.{limit}
 use Rattle.wire.proofs.Lengths.{split}
 use Rattle.entries.specs.Limits.{entrySize}
 use Rattle.entries.specs.Entries.{groupOf, behind, objectOf, statusOf, zerosOf, ageOf, withStatus, ageGood, entryFrom, entryBehind, entryOf}
+use Rattle.entries.specs.Steps.{nextOf}
 use Rattle.entries.specs.Exactly.{Right}
 use Rattle.entries.specs.declared.Profile.{Profile}
+use Rattle.entries.specs.declared.Profile.the-variants.{One}
 use Rattle.entries.specs.declared.Status.{Status}
 use Rattle.entries.specs.declared.Status.the-variants.{Received, Late, NotReceived, Partial}
 use Rattle.entries.specs.declared.Entry.{Entry}
 use Rattle.entries.specs.declared.Entry.the-variants.{Record, Ends, Broken}
+use Rattle.entries.specs.declared.Next.{Next}
+use Rattle.entries.specs.declared.Next.the-variants.{From, Stop}
 
 pub data Verdict (p : Profile) (b : List ℕ) : Entry → Type 0 where
   short : length (behind p b) < entrySize → Verdict p b Ends
@@ -100,3 +104,16 @@ key-is p b e group object status age t f = go (entryOf p b) (verdict p b) (sym f
         let g : groupOf p b ≡ group = cc in
         let o : objectOf (behind p b) ≡ object = cc in
         record { group = g; object = o; small = omega (arith, r .object) }
+
+-- what an entry leaves to the next is not far above the limit
+pub next-small : (floor : ℕ) (b : List ℕ) (x : Next) (m : ℕ) → x ≡ nextOf floor (entryBehind 0 b) → x ≡ From m → m ≤ suc limit
+next-small floor b x m f t = go (entryBehind 0 b) (verdict One b) (sym f ∙ t)
+  where
+    go : (y : Entry) → Verdict One b y → nextOf floor y ≡ From m → m ≤ suc limit
+    go y (short h) e = let z : _≡_ {A = ℕ} 0 1 = cc in absurd (omega arith)
+    go y (wrong h n) e = let z : _≡_ {A = ℕ} 0 1 = cc in absurd (omega arith)
+    go y (right h r) e = it (leb floor (objectOf b)) e
+      where
+        it : (l : Bool) → pick l (From (suc (objectOf b))) Stop ≡ From m → m ≤ suc limit
+        it true q = let k : m ≡ suc (objectOf b) = cc in omega (arith, r .object)
+        it false q = let z : _≡_ {A = ℕ} 0 1 = cc in absurd (omega arith)

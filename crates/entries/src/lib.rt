@@ -56,6 +56,23 @@ pub enum Entry {
     OtherProfile,
 }
 
+// The parts of the 16 bytes behind a group, or that the bytes are fewer.
+enum Parts {
+    There {
+        object: u64,
+        status: u64,
+        zeros: u64,
+        age: u64,
+    },
+    Short,
+}
+
+// What a record in a row leaves to the next: the number that the next object of the group is to reach, or that it breaks a rule.
+enum Next {
+    From(u64),
+    Stop,
+}
+
 impl Entry {
     // The paper's number for the answer, 0 for accepted.
     pub fn refusal(self) -> u64

@@ -3,7 +3,9 @@ ghost use mathlib.Core.Path.{_≡_};
 ghost use Rattle.wire.specs.Fields.{readFixed};
 ghost use Rattle.entries.specs.Profiles.{groupBytes};
 ghost use Rattle.entries.specs.Entries.{entryFrom, entryBehind, entryOf, entryAt, entryBy};
+ghost use Rattle.entries.specs.Steps.{restGood, partsIn};
 use crate::Entry;
+use crate::Parts;
 use crate::Profile;
 use crate::RECORD;
 use crate::Status;
@@ -22,9 +24,8 @@ fn group_in(profile: Profile, bytes: &[u8]) -> Fixed
     }
 }
 
-// The entry in a record's bytes: its group, where the profile has one, then the rest. One call serves both profiles, so that it
-// goes in line in the loop over records.
-pub(crate) fn entry_of(profile: Profile, bytes: &[u8]) -> Entry
+// The entry in a record's bytes: its group, where the profile has one, then the rest.
+fn entry_of(profile: Profile, bytes: &[u8]) -> Entry
     ensures { λ r. ⌜ r ≡ entryOf profile (now (bytes .entry)) ⌝ }
 {
     let Fixed::Value {
@@ -37,35 +38,56 @@ pub(crate) fn entry_of(profile: Profile, bytes: &[u8]) -> Entry
     entry_behind(group, &bytes[at..])
 }
 
-// The entry in the 16 bytes behind the group. Its status and the three zero bytes are looked at as one field of four bytes.
+// The entry in the 16 bytes behind the group.
 fn entry_behind(group: u64, bytes: &[u8]) -> Entry
     ensures { λ r. ⌜ r ≡ entryBehind group (now (bytes .entry)) ⌝ }
 {
-    if bytes.len() < RECORD {
+    let Parts::There {
+        object,
+        status,
+        zeros,
+        age,
+    } = parts_in(bytes)
+    else {
         return Entry::Ends;
+    };
+    judge_entry(group, object, status, zeros, age)
+}
+
+// The parts of the 16 bytes behind a group. The status and the three zero bytes are read as one field of four bytes.
+pub(crate) fn parts_in(bytes: &[u8]) -> Parts
+    ensures { λ r. ⌜ r ≡ partsIn (now (bytes .entry)) ⌝ }
+{
+    if bytes.len() < RECORD {
+        return Parts::Short;
     }
     let Fixed::Value {
         value: object,
         next: _,
     } = wire::read_fixed8(bytes, 0)
     else {
-        return Entry::Ends;
+        return Parts::Short;
     };
     let Fixed::Value {
         value: mark,
         next: _,
     } = wire::read_fixed4(bytes, 8)
     else {
-        return Entry::Ends;
+        return Parts::Short;
     };
     let Fixed::Value {
         value: age,
         next: _,
     } = wire::read_fixed4(bytes, 12)
     else {
-        return Entry::Ends;
+        return Parts::Short;
     };
-    judge_entry(group, object, mark / 16777216, mark % 16777216, age)
+    Parts::There {
+        object,
+        status: mark / 16777216,
+        zeros: mark % 16777216,
+        age,
+    }
 }
 
 // An entry that obeys its rule.
@@ -80,7 +102,24 @@ fn made(group: u64, object: u64, status: Status, age: u64) -> Entry
     }
 }
 
-// The entry that the fields of a record make.
+// Whether what comes behind the object number obeys its rule.
+pub(crate) fn rest_good(status: u64, zeros: u64, age: u64) -> bool
+    ensures { λ r. ⌜ r ≡ restGood status zeros age ⌝ }
+{
+    if zeros != 0 {
+        return false;
+    }
+    if 3 < status {
+        return false;
+    }
+    if status == 2 {
+        return age == 0;
+    }
+    true
+}
+
+// The entry that the fields of a record make. The rule of rest_good stands here by status, as an entry is made of each: with a call of it
+// the search for the newest lost object took 1.6 times as long.
 fn judge_entry(group: u64, object: u64, status: u64, zeros: u64, age: u64) -> Entry
     ensures { λ r. ⌜ r ≡ entryFrom group object status zeros age ⌝ }
 {

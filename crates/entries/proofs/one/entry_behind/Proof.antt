@@ -1,17 +1,14 @@
--- `entries::entry_behind` meets its contract: within a record every field is there, and the status and the zero bytes are read as one.
+-- `entries::entry_behind` meets its contract: the entry is what the judge makes of the parts, where they are there.
 -- Assumes nothing.
-use native.Mathlib.Omega.{arith}
+use mathlib.Core.Path.{_∙_}
 use denote.Ref.{now}
-use Rattle.entries.proofs.Fields.{never-ends, field-is, entry-is, too-short}
+use Rattle.entries.proofs.Steps.{parts-short, parts-there}
 use borrow.Author.Needs.{needs}
 use Rattle.entries.proofs.one.entry_behind.Statement.{statement}
 use Rattle.entries.proofs.one.entry_behind.Tie as tie
 
-returns : tie.Need-returns
-returns c = too-short (c .before .before .args .group) (now (c .before .before .args .bytes)) (c .if1 .taken)
-
-read-fixed8-requires : tie.Need-read-fixed8-requires
-read-fixed8-requires c κs = search needs
+parts-in-requires : tie.Need-parts-in-requires
+parts-in-requires c κs = search needs
 
 enum-known-object : tie.Need-enum-known-object
 enum-known-object c = search needs
@@ -19,62 +16,20 @@ enum-known-object c = search needs
 enum-told : tie.Need-enum-told
 enum-told c = search needs
 
-returns-2 : tie.Need-returns-2
-returns-2 c = never-ends 8 (now (c .before .before .before .before .before .args .bytes)) 0 _ (omega (arith, c .before .before .before .if1 .left)) (c .enum-told .given .1) (c .before .before .read-fixed8 .ensures)
-
-read-fixed4-requires : tie.Need-read-fixed4-requires
-read-fixed4-requires c κs = search needs
-
-enum-known-mark : tie.Need-enum-known-mark
-enum-known-mark c = search needs
-
-enum-told-2 : tie.Need-enum-told-2
-enum-told-2 c = search needs
-
-returns-3 : tie.Need-returns-3
-returns-3 c = never-ends 4 (now (c .before .before .before .before .before .before .before .before .before .args .bytes)) 8 _ (omega (arith, c .before .before .before .before .before .before .before .if1 .left)) (c .enum-told2 .given .1) (c .before .before .read-fixed4 .ensures)
-
-read-fixed4-requires-2 : tie.Need-read-fixed4-requires-2
-read-fixed4-requires-2 c κs = search needs
-
-enum-known-age : tie.Need-enum-known-age
-enum-known-age c = search needs
-
-enum-told-3 : tie.Need-enum-told-3
-enum-told-3 c = search needs
-
-returns-4 : tie.Need-returns-4
-returns-4 c = never-ends 4 (now (c .before .before .before .before .before .before .before .before .before .before .before .before .before .args .bytes)) 12 _ (omega (arith, c .before .before .before .before .before .before .before .before .before .before .before .if1 .left)) (c .enum-told3 .given .1) (c .before .before .read-fixed42 .ensures)
+returns : tie.Need-returns
+returns c =
+    let a = c .before .before .before .before .args in
+    parts-short (a .group) (now (a .bytes)) _ (c .before .before .parts-in .ensures) (c .enum-told .given .1)
 
 judge-entry-requires : tie.Need-judge-entry-requires
 judge-entry-requires c κs = search needs
 
-returns-5 : tie.Need-returns-5
-returns-5 c =
-    let b = now (c .before .before .before .before .before .before .before .before .before .before .before .before .before .before .before .args .bytes) in
-    let h = c .before .before .before .before .before .before .before .before .before .before .before .before .before .if1 .left in
-    entry-is _ b _ _ _ _ (λ i. c .before .before .before .before .before .before .before .before .before .before .before .before .before .before .shared-slice-known .given i .fits) h
-    (field-is 8 b 0 _ _ _ (omega (arith, h)) (c .before .before .before .before .before .before .before .before .before .before .object .given .1) (c .before .before .before .before .before .before .before .before .before .before .before .before .read-fixed8 .ensures))
-    (field-is 4 b 8 _ _ _ (omega (arith, h)) (c .before .before .before .before .before .before .mark .given .1) (c .before .before .before .before .before .before .before .before .read-fixed4 .ensures))
-    (field-is 4 b 12 _ _ _ (omega (arith, h)) (c .before .before .age .given .1) (c .before .before .before .before .read-fixed42 .ensures))
-    (c .judge-entry .ensures)
+returns-2 : tie.Need-returns-2
+returns-2 c =
+    let a = c .before .before .before .before .before .before .args in
+    c .judge-entry .ensures ∙ parts-there (a .group) (now (a .bytes)) _ (c .before .before .before .before .parts-in .ensures) _ _ _ _ (c .before .before .object .given .1)
 
 pub entry-behind-spec : {M : Type 1} → statement M
 entry-behind-spec =
     tie.close
-    (tie.spec
-    returns
-    read-fixed8-requires
-    enum-known-object
-    enum-told
-    returns-2
-    read-fixed4-requires
-    enum-known-mark
-    enum-told-2
-    returns-3
-    read-fixed4-requires-2
-    enum-known-age
-    enum-told-3
-    returns-4
-    judge-entry-requires
-    returns-5)
+    (tie.spec parts-in-requires enum-known-object enum-told returns judge-entry-requires returns-2)

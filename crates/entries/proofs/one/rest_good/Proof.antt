@@ -1,0 +1,24 @@
+-- `entries::rest_good` meets its contract: each branch is one test of the definition.
+-- Assumes nothing.
+use borrow.Author.Tests.{le-leb, lt-leb, eq-eqb, ne-eqb}
+use Rattle.entries.proofs.one.rest_good.Statement.{statement}
+use Rattle.entries.proofs.one.rest_good.Tie as tie
+
+returns : tie.Need-returns
+returns c = rw (ne-eqb (c .before .args .zeros) 0 (c .if1 .taken))
+
+returns-2 : tie.Need-returns-2
+returns-2 c = let a = c .before .before .args in rw (eq-eqb (a .zeros) 0 (c .before .if1 .left), lt-leb (a .status) 3 (c .if2 .taken))
+
+returns-3 : tie.Need-returns-3
+returns-3 c =
+    let a = c .before .before .before .args in
+    rw (eq-eqb (a .zeros) 0 (c .before .before .if1 .left), le-leb (a .status) 3 (c .before .if2 .left), eq-eqb (a .status) 2 (c .if3 .taken))
+
+returns-4 : tie.Need-returns-4
+returns-4 c =
+    let a = c .before .before .before .args in
+    rw (eq-eqb (a .zeros) 0 (c .before .before .if1 .left), le-leb (a .status) 3 (c .before .if2 .left), ne-eqb (a .status) 2 (c .if3 .left))
+
+pub rest-good-spec : {M : Type 1} → statement M
+rest-good-spec = tie.close (tie.spec returns returns-2 returns-3 returns-4)
