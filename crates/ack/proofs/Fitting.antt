@@ -208,7 +208,7 @@ module _ {s : Seen} (b : Begun s) (delay room : ℕ) (d : delay ≤ limit) where
       }
 
   module _ {p bytes count : ℕ} (c : Counted s delay room p bytes count) where
-    counted-fits : length (frame s Nothing delay count) ≤ room
+    pub counted-fits : length (frame s Nothing delay count) ≤ room
     counted-fits =
         let e : count ≡ suc (count - 1) = omega (arith, c .some) in
         let z : count - 1 + 0 ≡ count - 1 = omega arith in
@@ -254,27 +254,11 @@ module _ {s : Seen} (b : Begun s) (delay room : ℕ) (d : delay ≤ limit) where
               omega (arith, ap (λ (x : ℕ). bytesBelow s x (low s 1024)) y, c .sum (suc m), bytes-more b delay d m p (c .at) h);
         }
 
--- ---- the same of what the code has: z is the size of the first range, and each w how many bytes a number takes
-
-module _ {s : Seen} (b : Begun s) {delay : ℕ} (d : delay ≤ limit) {z w₁ w₂ w₃ : ℕ} (e : z ≡ size s 1024)
-    (e₁ : w₁ ≡ widthOf (s .end - 1)) (e₂ : w₂ ≡ widthOf delay) (e₃ : w₃ ≡ widthOf (z - 1)) where
-  base-is : 1 + w₁ + w₂ + w₃ ≡ base s delay
-  base-is = omega (arith, e₃ ∙ ap (λ (x : ℕ). widthOf (x - 1)) e)
-
-  pub none-fits : {room : ℕ} → room < 1 + w₁ + w₂ + w₃ + 1 → 0 ≡ rangesKept s Nothing delay room
-  none-fits {room} h = count-none b delay room d (omega (arith, base-is))
-
-  pub first-fits : {room : ℕ} → 1 + w₁ + w₂ + w₃ + 1 ≤ room → Counted s delay room (1024 - z) (1 + w₁ + w₂ + w₃) 1
-  first-fits {room} h = rw (base-is, e, ← first-low b) (count-first b delay room d (omega (arith, base-is)))
-
 -- m and z are what a step down from p passes and takes
 module _ {s : Seen} (b : Begun s) {delay room : ℕ} (d : delay ≤ limit) {p bytes count : ℕ} (c : Counted s delay room p bytes count)
     {m z : ℕ} (e : m ≡ missing s p) (f : z ≡ size s p) where
-  pub all-fit : z ≡ 0 → count ≡ rangesKept s Nothing delay room
-  all-fit n = count-all b delay room d c (size-none s p (sym f ∙ n))
-
   module _ (n : z ≡ 0 → ⊥) where
-    some-more : 0 < top s p
+    pub some-more : 0 < top s p
     some-more = split (top s p) 0 (λ h. absurd (n (omega (arith, size-le s p)))) (λ h. h)
 
     pub step-sizes : (0 < m) × (0 < z) × (m + z ≤ p)

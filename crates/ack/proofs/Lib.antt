@@ -1,9 +1,11 @@
 pub mod Ranges
 pub mod Reporting
 pub mod Fitting
-pub mod Storing
 pub mod Counts
 pub mod Written
 pub mod Maximal
 pub mod Emits
 pub mod Only
+pub mod Short
+pub mod Walking
+pub mod Framing

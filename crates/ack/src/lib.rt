@@ -17,7 +17,11 @@ use frames::Tail;
 use seen::Micros;
 use seen::Seen;
 use seen::numbers;
+use walk::first_room;
+use walk::put_body;
 use wire::Put;
+
+mod walk;
 
 // What writing an ACK frame answers.
 pub struct Acked {
@@ -36,21 +40,6 @@ impl Acked {
     }
 }
 
-// A range by its size, and by how many numbers are missing between it and the place above; of size 0 where there is none.
-struct Range {
-    missing: u64,
-    size: u64,
-}
-
-// The newest range below a place of a window's words.
-fn range_below(words: &[u64; 16], place: u64) -> Range
-    ensures { λ r. ⌜ (r .missing ≡ runBelow false place (lentValue (now (words .entry)))) × (r .size ≡ runBelow true (place - runBelow false place (lentValue (now (words .entry)))) (lentValue (now (words .entry)))) ⌝ }
-{
-    let missing = window::run_below(words, place, false);
-    let size = window::run_below(words, place - missing, true);
-    Range { missing, size }
-}
-
 // Whether the marks of a window's words fit the end of L, told by the runs that a frame is made of.
 fn runs_fit(words: &[u64; 16], end: u64) -> bool
     ensures { λ r. ⌜ r ≡ marksFit (lentValue (now (words .entry))) end ⌝ }
@@ -66,7 +55,7 @@ fn runs_fit(words: &[u64; 16], end: u64) -> bool
 }
 
 // The type of a frame with that tail (RFC 9000 19.3).
-fn type_of(tail: Tail) -> u64
+pub(crate) fn type_of(tail: Tail) -> u64
     ensures { λ r. ⌜ r ≡ typeOf tail ⌝ }
 {
     match tail {
@@ -149,63 +138,6 @@ fn first_size(seen: Seen) -> u64
     window::run_below(&seen.window.words, window::PLACES, true)
 }
 
-// How many of the newest ranges fit the room: 0 where not even the first does, which has `first` numbers.
-fn ranges_kept(seen: Seen, first: u64, delay: u64, room: usize) -> u64
-    requires { ⌜ (seenConsistent seen ≡ true) × (0 < seen .end) × (delay ≤ limit) × (room < 2 ^ 63) × (first ≡ runBelow true places (valueOf (seen .window))) ⌝ }
-    ensures { λ r. ⌜ r ≡ rangesKept seen Nothing delay room ⌝ }
-{
-    // No place below that of number 0 is marked.
-    let none_below = numbers::minus_or_zero(window::PLACES, seen.end);
-    // The bytes of the frame so far, without its range count.
-    let mut bytes = 1 + wire::width(seen.end - 1) + wire::width(delay) + wire::width(first - 1);
-    if room < bytes + 1 {
-        return 0;
-    }
-    let mut count: u64 = 1;
-    let mut low = window::PLACES - first;
-    while none_below < low {
-        let range = range_below(&seen.window.words, low);
-        if range.size == 0 {
-            return count;
-        }
-        bytes = bytes + wire::width(range.missing - 1) + wire::width(range.size - 1);
-        // The range count, now of `count` ranges after the first, may take a byte more.
-        if room < bytes + wire::width(count) {
-            return count;
-        }
-        count += 1;
-        low = low - range.missing - range.size;
-    }
-    count
-}
-
-// Writes the frame with the count newest ranges up to its counts, and answers the place after them.
-fn store(seen: Seen, kind: u64, first: u64, delay: u64, count: u64, buf: &mut [u8]) -> usize
-    requires { ⌜ (seenConsistent seen ≡ true) × (0 < seen .end) × (delay ≤ limit) × (0 < count) × (count ≤ numberOfRanges seen) × (length (body seen kind delay count) ≤ length (now buf)) × (first ≡ runBelow true places (valueOf (seen .window))) × (kind ≤ limit) ⌝ }
-    ensures { λ r. ⌜ (r ≡ length (body seen kind delay count)) × (now (buf .exit) ≡ splice (now (buf .entry)) 0 (body seen kind delay count)) ⌝ }
-{
-    // Type, largest, delay, range count, first range (RFC 9000 19.3).
-    let fields = [kind, seen.end - 1, delay, count - 1, first - 1];
-    let Put::Done { next } = wire::put_numbers(buf, 0, &fields) else {
-        return 0;
-    };
-    let mut at = next;
-    let mut low = window::PLACES - first;
-    let mut left = count - 1;
-    while 0 < left {
-        let range = range_below(&seen.window.words, low);
-        // Gap and length, each one less than what it counts.
-        let pair = [range.missing - 1, range.size - 1];
-        let Put::Done { next: after } = wire::put_numbers(buf, at, &pair) else {
-            return 0;
-        };
-        at = after;
-        low = low - range.missing - range.size;
-        left -= 1;
-    }
-    at
-}
-
 // Writes the ACK frame of all its marks, as many newest ranges as fit; 9 where not even the first does.
 fn write_marks(seen: Seen, time: Micros, tail: Tail, buf: &mut [u8]) -> Acked
     requires { ⌜ (seenConsistent seen ≡ true) × (0 < seen .end) × (small (time .0) ≡ true) × (allSmall (countsOf tail) ≡ true) ⌝ }
@@ -214,11 +146,10 @@ fn write_marks(seen: Seen, time: Micros, tail: Tail, buf: &mut [u8]) -> Acked
     let delay = numbers::minus_or_zero(time.0, seen.arrived.0) / 8;
     let first = first_size(seen);
     let room = room_before(tail, buf.len());
-    let count = ranges_kept(seen, first, delay, room);
-    if count == 0 {
+    if room < first_room(seen, first, delay) {
         return Acked::refused(9);
     }
-    let end = store(seen, type_of(tail), first, delay, count, buf);
+    let end = put_body(seen, tail, first, delay, room, buf);
     let length = put_counts(tail, end, buf);
     Acked {
         result: 0,

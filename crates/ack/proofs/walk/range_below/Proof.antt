@@ -1,4 +1,4 @@
--- `ack::range_below` meets its contract: two runs of the window, one below the other.
+-- `ack::walk::range_below` meets its contract: two runs of the window, one below the other.
 -- Assumes nothing.
 use Prim.Native.Nat.{ℕ, _-_}
 use mathlib.Core.Path.{ap, _∙_}
@@ -7,8 +7,8 @@ use native.Mathlib.Omega.{arith}
 use borrow.Author.Needs.{needs}
 use Rattle.window.specs.Window.{lentValue, runBelow}
 use Rattle.window.proofs.Runs.{run-le}
-use Rattle.ack.proofs.range_below.Statement.{statement}
-use Rattle.ack.proofs.range_below.Tie as tie
+use Rattle.ack.proofs.walk.range_below.Statement.{statement}
+use Rattle.ack.proofs.walk.range_below.Tie as tie
 
 run-below-requires : tie.Need-run-below-requires
 run-below-requires c κs = search needs
