@@ -7,5 +7,6 @@ pub mod Maximal
 pub mod Emits
 pub mod Only
 pub mod Short
+pub mod Inword
 pub mod Walking
 pub mod Framing

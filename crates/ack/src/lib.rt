@@ -18,6 +18,7 @@ use seen::Micros;
 use seen::Seen;
 use seen::numbers;
 use walk::first_room;
+use walk::first_size;
 use walk::put_body;
 use wire::Put;
 
@@ -129,13 +130,6 @@ fn consistent_by_runs(seen: Seen) -> bool
         return false;
     }
     runs_fit(&seen.window.words, seen.end)
-}
-
-// How many numbers the newest range has: it ends with L, whose place is the last.
-fn first_size(seen: Seen) -> u64
-    ensures { λ r. ⌜ r ≡ runBelow true places (valueOf (seen .window)) ⌝ }
-{
-    window::run_below(&seen.window.words, window::PLACES, true)
 }
 
 // Writes the ACK frame of all its marks, as many newest ranges as fit; 9 where not even the first does.

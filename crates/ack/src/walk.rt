@@ -3,8 +3,8 @@ ghost use mathlib.Core.Path.{_≡_};
 ghost use mathlib.Core.Bool.{true, false};
 ghost use mathlib.Core.Logic.{_⊎_};
 ghost use mathlib.Core.List.{[], _∷_};
-ghost use Prim.Native.Nat.{_+_, _-_, _*_, _^_, _≤_, _<_};
-ghost use lib.ListN.{length, take};
+ghost use Prim.Native.Nat.{_+_, _-_, _*_, _/_, _≤_, _<_};
+ghost use lib.ListN.{length, take, getD};
 ghost use Rattle.wire.specs.Numbers.{limit, widthOf, encode, encodeAll};
 ghost use Rattle.wire.specs.Bytes.{splice};
 ghost use Rattle.frames.specs.Ack.{typeOf, gapsFrom};
@@ -29,6 +29,50 @@ pub(crate) fn range_below(words: &[u64; 16], place: u64) -> Range
 {
     let missing = window::run_below(words, place, false);
     let size = window::run_below(words, place - missing, true);
+    Range { missing, size }
+}
+
+// A word of a window's words.
+fn word_at(words: &[u64; 16], i: usize) -> u64
+    requires { ⌜ i < 16 ⌝ }
+    ensures { λ r. ⌜ r ≡ getD (now (words .entry)) i 0 ⌝ }
+{
+    words[i]
+}
+
+// How many numbers the newest range has: it ends with L, whose place is the last. Whole words are passed over.
+pub(crate) fn first_size(seen: Seen) -> u64
+    ensures { λ r. ⌜ r ≡ runBelow true places (valueOf (seen .window)) ⌝ }
+{
+    let mut left = window::PLACES;
+    while 0 < left {
+        let i = (left / 64 - 1) as usize;
+        let other = !word_at(&seen.window.words, i);
+        if other != 0 {
+            return window::PLACES - left + u64::leading_zeros(other) as u64;
+        }
+        left -= 64;
+    }
+    window::PLACES
+}
+
+// The same from the word that holds the place below: most ranges lie in one word.
+fn range_at(words: &[u64; 16], word: u64, place: u64) -> Range
+    requires { ⌜ (0 < place) × (place ≤ places) × (word ≡ getD (now words) ((place - 1) / 64) 0) ⌝ }
+    ensures { λ r. ⌜ (r .missing ≡ runBelow false place (lentValue (now (words .entry)))) × (r .size ≡ runBelow true (place - runBelow false place (lentValue (now (words .entry)))) (lentValue (now (words .entry)))) ⌝ }
+{
+    let k = (place - 1) % 64;
+    let rest = word << (63 - k);
+    if rest == 0 {
+        return range_below(words, place);
+    }
+    let missing = u64::leading_zeros(rest) as u64;
+    let other = !word << (63 - (k - missing));
+    if other == 0 {
+        let size = window::run_below(words, place - missing, true);
+        return Range { missing, size };
+    }
+    let size = u64::leading_zeros(other) as u64;
     Range { missing, size }
 }
 
@@ -86,8 +130,16 @@ pub(crate) fn put_ranges(
     let mut at = from;
     let mut place = low;
     let mut count: u64 = 0;
+    // The word that holds the place below.
+    let mut index: usize = 15;
+    let mut word = word_at(&seen.window.words, index);
     while none_below < place {
-        let range = range_below(&seen.window.words, place);
+        let below = ((place - 1) / 64) as usize;
+        if below != index {
+            index = below;
+            word = word_at(&seen.window.words, index);
+        }
+        let range = range_at(&seen.window.words, word, place);
         if range.size == 0 {
             break;
         }

@@ -1,7 +1,7 @@
 -- `ack::walk::put_ranges` meets its contract. The loop's invariant: the ranges stored so far fit, and with those still to come they give the whole.
 -- Assumes nothing.
-use Prim.Native.Nat.{ℕ, _+_, _-_, _≤_, _<_}
-use mathlib.Core.Path.{_≡_, sym, subst}
+use Prim.Native.Nat.{ℕ, _+_, _-_, _/_, _≤_, _<_}
+use mathlib.Core.Path.{_≡_, sym, ap, _∙_, subst}
 use mathlib.Core.Bool.{Bool}
 use mathlib.Core.List.{List}
 use mathlib.Core.Logic.{⊎-elim}
@@ -19,10 +19,11 @@ use Rattle.ack.proofs.walk.put_ranges.Statement.{statement}
 use Rattle.ack.proofs.walk.put_ranges.Tie as tie
 
 abbrev Inv-loop : tie.InvT-loop
-Inv-loop low delay most from room buf₀ seen none-below at₀ place₀ count₀ buf at place count = Walking seen delay room most from buf₀ buf at place count
+Inv-loop low delay most from room buf₀ seen none-below at₀ place₀ count₀ index₀ word₀ buf at place count index word =
+    Walking seen delay room most from buf₀ buf at place count × (word ≡ getD (seen .window .words) index 0)
 
 abbrev μ-loop : tie.MeasureT-loop
-μ-loop low delay most from room buf₀ seen none-below at₀ place₀ count₀ buf at place count = place
+μ-loop low delay most from room buf₀ seen none-below at₀ place₀ count₀ index₀ word₀ buf at place count index word = place
 
 started : (c : tie.Start Inv-loop μ-loop) → Begun (c .args .t1)
 started c = begun (c .args .t1) (c .pre .0) (c .pre .1)
@@ -45,50 +46,74 @@ answers c {ys} {end} {count} {over} a =
 
 -- the entry, from the loop's head, and the loop's head, from the range that a turn found
 abbrev origin : tie.At-loop Inv-loop μ-loop → tie.Start Inv-loop μ-loop
-origin c = c .before .before .before
+origin c = c .before .before .before .before .before .before
 
-abbrev head : tie.After-range-below Inv-loop μ-loop → tie.At-loop Inv-loop μ-loop
-head c = c .before .before .before .before
+abbrev head : tie.After-range-at Inv-loop μ-loop → tie.At-loop Inv-loop μ-loop
+head c = c .before .before .before .before .before
 
-another : (c : tie.After-range-below Inv-loop μ-loop)
-    → (c .range-below .result .missing ≡ missing (origin (head c) .args .t1) (head c .loop .place))
-    × (c .range-below .result .size ≡ size (origin (head c) .args .t1) (head c .loop .place))
-another c = let o = origin (head c) in ranged (o .args .t1) (own o) (head c .loop .place) _ _ (c .range-below .ensures)
+another : (c : tie.After-range-at Inv-loop μ-loop)
+    → (c .range-at .result .missing ≡ missing (origin (head c) .args .t1) (head c .loop .place))
+    × (c .range-at .result .size ≡ size (origin (head c) .args .t1) (head c .loop .place))
+another c = let o = origin (head c) in ranged (o .args .t1) (own o) (head c .loop .place) _ _ (c .range-at .ensures)
 
-sizes : (c : tie.Else1 Inv-loop μ-loop)
-    → (0 < c .before .before .range-below .result .missing) × (0 < c .before .before .range-below .result .size)
-    × (c .before .before .range-below .result .missing + c .before .before .range-below .result .size ≤ head (c .before .before) .loop .place)
+sizes : (c : tie.Else2 Inv-loop μ-loop)
+    → (0 < c .before .before .range-at .result .missing) × (0 < c .before .before .range-at .result .size)
+    × (c .before .before .range-at .result .missing + c .before .before .range-at .result .size ≤ head (c .before .before) .loop .place)
     × (head (c .before .before) .loop .place < 1024)
 sizes c =
     let r = c .before .before in
     let o = origin (head r) in
-    let w = head r .loop .inv in
-    let x = step-sizes (started o) (o .pre .2) (w .counted) (another r .0) (another r .1) (c .if1 .left) in
+    let w = head r .loop .inv .0 in
+    let x = step-sizes (started o) (o .pre .2) (w .counted) (another r .0) (another r .1) (c .if2 .left) in
     (x .0, x .1, x .2, w .counted .at .below)
 
 -- the range that was found, from the test of the room
-abbrev found : tie.After-short-width2 Inv-loop μ-loop → tie.Else1 Inv-loop μ-loop
+abbrev found : tie.After-short-width2 Inv-loop μ-loop → tie.Else2 Inv-loop μ-loop
 found c = c .before .before .before .before
 
-fits : (c : tie.Else2 Inv-loop μ-loop)
-    → head (found (c .before) .before .before) .loop .at + widthOf (found (c .before) .before .before .range-below .result .missing - 1) + widthOf (found (c .before) .before .before .range-below .result .size - 1)
+fits : (c : tie.Else3 Inv-loop μ-loop)
+    → head (found (c .before) .before .before) .loop .at + widthOf (found (c .before) .before .before .range-at .result .missing - 1) + widthOf (found (c .before) .before .before .range-at .result .size - 1)
     ≤ origin (head (found (c .before) .before .before)) .args .room
-fits c = omega (arith, c .before .before .short-width .ensures, c .before .short-width2 .ensures, c .if2 .left)
+fits c = omega (arith, c .before .before .short-width .ensures, c .before .short-width2 .ensures, c .if3 .left)
 
 -- the same, from the second put
-abbrev turn : tie.After-put-short2 Inv-loop μ-loop → tie.Else1 Inv-loop μ-loop
+abbrev turn : tie.After-put-short2 Inv-loop μ-loop → tie.Else2 Inv-loop μ-loop
 turn c = found (c .before .before .before .before .before .before .before .before)
 
 minus-or-zero-requires : tie.Need-minus-or-zero-requires Inv-loop μ-loop
 minus-or-zero-requires c κs = search needs
 
+word-at-requires : tie.Need-word-at-requires Inv-loop μ-loop
+word-at-requires c κs = search needs
+
 loop-holds : tie.Need-loop-holds Inv-loop μ-loop
 loop-holds c =
-    let o = c .before .before in
-    rw (starts o) (walk-begins (started o) (o .pre .2) (o .args .buf .now) (o .pre .5) (o .pre .6) (holds o))
+    let o = c .before .before .before .before .before in
+    (rw (starts o) (walk-begins (started o) (o .pre .2) (o .args .buf .now) (o .pre .5) (o .pre .6) (holds o)), c .word-at .ensures)
 
-range-below-requires : tie.Need-range-below-requires Inv-loop μ-loop
-range-below-requires c κs = search needs
+sub-below : tie.Need-sub-below Inv-loop μ-loop
+sub-below c = omega arith
+
+word-at-requires-2 : tie.Need-word-at-requires-2 Inv-loop μ-loop
+word-at-requires-2 c κs = let l = c .before .before .before .before in omega (arith, l .loop .inv .0 .counted .at .below)
+
+-- the word at hand holds the place below
+at-hand : (c : tie.Joined1 Inv-loop μ-loop)
+    → (c .if1 .word ≡ getD (origin (c .before .before) .args .t1 .window .words) ((c .before .before .loop .place - 1) / 64) 0)
+    × (c .if1 .index ≡ (c .before .before .loop .place - 1) / 64)
+at-hand c =
+    let l = c .before .before in
+    let ws : List ℕ = origin l .args .t1 .window .words in
+    ⊎-elim
+    (λ w. (w .5 ∙ w .3 .ensures, w .4))
+    (λ w. (w .2 ∙ l .loop .inv .1 ∙ ap (λ (i : ℕ). getD ws i 0) (sym (w .0 .left)), w .1 ∙ sym (w .0 .left)))
+    (c .if1 .came)
+
+range-at-requires : tie.Need-range-at-requires Inv-loop μ-loop
+range-at-requires c κs =
+    let j = c .before .before in
+    let l = j .before .before in
+    (omega (arith, j .before .loop-test .taken), omega (arith, l .loop .inv .0 .counted .at .below), at-hand j .0)
 
 sub-gap : tie.Need-sub-gap Inv-loop μ-loop
 sub-gap c = omega (arith, sizes (c .before))
@@ -102,7 +127,7 @@ short-width-requires c κs = omega (arith, sizes (c .before .before))
 add-end : tie.Need-add-end Inv-loop μ-loop
 add-end c =
     let l = head (c .before .before .before .before .before) in
-    omega (arith, narrow _ (c .short-width .ensures), l .loop .inv .within, origin l .pre .3, origin l .good .1 .1 .1 .1 .1 .1 .0 .1)
+    omega (arith, narrow _ (c .short-width .ensures), l .loop .inv .0 .within, origin l .pre .3, origin l .good .1 .1 .1 .1 .1 .1 .0 .1)
 
 short-width-requires-2 : tie.Need-short-width-requires-2 Inv-loop μ-loop
 short-width-requires-2 c κs = omega (arith, sizes (c .before .before .before))
@@ -110,7 +135,7 @@ short-width-requires-2 c κs = omega (arith, sizes (c .before .before .before))
 add-end-2 : tie.Need-add-end-2 Inv-loop μ-loop
 add-end-2 c =
     let l = head (found c .before .before) in
-    omega (arith, narrow _ (c .before .short-width .ensures), narrow _ (c .short-width2 .ensures), l .loop .inv .within, origin l .pre .3, origin l .good .1 .1 .1 .1 .1 .1 .0 .1)
+    omega (arith, narrow _ (c .before .short-width .ensures), narrow _ (c .short-width2 .ensures), l .loop .inv .0 .within, origin l .pre .3, origin l .good .1 .1 .1 .1 .1 .1 .0 .1)
 
 same-length : tie.Need-same-length Inv-loop μ-loop
 same-length c = search needs
@@ -122,14 +147,14 @@ returns c =
     let r = e .before .before in
     let o = origin (head r) in
     answers o
-    (walk-over (started o) (o .pre .2) (head r .loop .inv) (another r .0) (another r .1) (e .if1 .left) (o .pre .7) (fits (c .before)) (c .if3 .taken) (k .before .short-width .ensures) (k .short-width2 .ensures))
+    (walk-over (started o) (o .pre .2) (head r .loop .inv .0) (another r .0) (another r .1) (e .if2 .left) (o .pre .7) (fits (c .before)) (c .if4 .taken) (k .before .short-width .ensures) (k .short-width2 .ensures))
 
 put-short-requires : tie.Need-put-short-requires Inv-loop μ-loop
 put-short-requires c κs =
     let u = c .before .before in
     let e = found (u .before) in
     let l = head (e .before .before) in
-    (omega (arith, sizes e), omega (arith, fits u, l .loop .inv .long, origin l .pre .3))
+    (omega (arith, sizes e), omega (arith, fits u, l .loop .inv .0 .long, origin l .pre .3))
 
 put-short-requires-2 : tie.Need-put-short-requires-2 Inv-loop μ-loop
 put-short-requires-2 c κs =
@@ -137,7 +162,7 @@ put-short-requires-2 c κs =
     let u = q .before .before .before in
     let e = found (u .before) in
     let l = head (e .before .before) in
-    (omega (arith, sizes e), omega (arith, fits u, l .loop .inv .long, origin l .pre .3, q .put-short .ensures .0, q .put-short .kept .0))
+    (omega (arith, sizes e), omega (arith, fits u, l .loop .inv .0 .long, origin l .pre .3, q .put-short .ensures .0, q .put-short .kept .0))
 
 sub-place : tie.Need-sub-place Inv-loop μ-loop
 sub-place c = omega (arith, sizes (turn (c .before .before .before)))
@@ -146,7 +171,7 @@ sub-place-2 : tie.Need-sub-place-2 Inv-loop μ-loop
 sub-place-2 c = omega (arith, sizes (turn (c .before .before .before .before)))
 
 add-count : tie.Need-add-count Inv-loop μ-loop
-add-count c = omega (arith, head (turn (c .before .before .before .before) .before .before) .loop .inv .counted .few)
+add-count c = omega (arith, head (turn (c .before .before .before .before) .before .before) .loop .inv .0 .counted .few)
 
 loop-less : tie.Need-loop-less Inv-loop μ-loop
 loop-less c = omega (arith, sizes (turn (c .before .before .before .before)))
@@ -159,8 +184,11 @@ loop-again c =
     let e = found (u .before) in
     let r = e .before .before in
     let o = origin (head r) in
-    walk-next (started o) (o .pre .2) (head r .loop .inv) (another r .0) (another r .1) (e .if1 .left) (fits u) (q .before .before .if3 .left) (holds o) (o .pre .3)
-    (q .put-short .ensures .0) (q .put-short .ensures .1) (t .put-short2 .ensures .0) (t .put-short2 .ensures .1) (q .put-short .kept .0) (t .put-short2 .kept .0)
+    let j = r .before .before .before in (
+      walk-next (started o) (o .pre .2) (head r .loop .inv .0) (another r .0) (another r .1) (e .if2 .left) (fits u) (q .before .before .if4 .left) (holds o) (o .pre .3)
+          (q .put-short .ensures .0) (q .put-short .ensures .1) (t .put-short2 .ensures .0) (t .put-short2 .ensures .1) (q .put-short .kept .0) (t .put-short2 .kept .0),
+      at-hand j .0 ∙ ap (λ (i : ℕ). getD (o .args .t1 .window .words) i 0) (sym (at-hand j .1)),
+    )
 
 same-length-2 : tie.Need-same-length-2 Inv-loop μ-loop
 same-length-2 c = search needs
@@ -170,7 +198,7 @@ returns-2 c =
     let l = c .before in
     let o = origin l in
     answers o
-    (walk-all (started o) (o .pre .2) (l .loop .inv) (nothing-below (started o) (l .loop .place) (omega (arith, c .loop-test .left, l .before .minus-or-zero .ensures))))
+    (walk-all (started o) (o .pre .2) (l .loop .inv .0) (nothing-below (started o) (l .loop .place) (omega (arith, c .loop-test .left, l .before .before .before .before .minus-or-zero .ensures))))
 
 same-length-3 : tie.Need-same-length-3 Inv-loop μ-loop
 same-length-3 c = search needs
@@ -180,7 +208,7 @@ returns-3 c =
     let r = c .before .before in
     let o = origin (head r) in
     answers o
-    (walk-all (started o) (o .pre .2) (head r .loop .inv) (size-none (o .args .t1) (head r .loop .place) (omega (arith, another r .1, c .if1 .taken))))
+    (walk-all (started o) (o .pre .2) (head r .loop .inv .0) (size-none (o .args .t1) (head r .loop .place) (omega (arith, another r .1, c .if2 .taken))))
 
 same-length-4 : tie.Need-same-length-4 Inv-loop μ-loop
 same-length-4 c = search needs
@@ -192,7 +220,7 @@ returns-4 c =
     let r = e .before .before in
     let o = origin (head r) in
     answers o
-    (walk-full (started o) (o .pre .2) (head r .loop .inv) (another r .0) (another r .1) (e .if1 .left) (o .pre .7) (omega (arith, c .if2 .taken, k .before .short-width .ensures, k .short-width2 .ensures)))
+    (walk-full (started o) (o .pre .2) (head r .loop .inv .0) (another r .0) (another r .1) (e .if2 .left) (o .pre .7) (omega (arith, c .if3 .taken, k .before .short-width .ensures, k .short-width2 .ensures)))
 
 pub put-ranges-spec : {M : Type 1} → statement M
 put-ranges-spec =
@@ -201,8 +229,11 @@ put-ranges-spec =
     Inv-loop
     μ-loop
     minus-or-zero-requires
+    word-at-requires
     loop-holds
-    range-below-requires
+    sub-below
+    word-at-requires-2
+    range-at-requires
     sub-gap
     sub-more
     short-width-requires
