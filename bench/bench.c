@@ -52,6 +52,11 @@ static const struct row rows[] = {
     {"lent: ACK written, 1 range", write_acks_lent, ONE_RANGE},
     {"lent: ACK written, 8 ranges", write_acks_lent, EIGHT_RANGES},
     {"lent: ACK written, 64 ranges", write_acks_lent, SIXTY_FOUR_RANGES},
+    {"lent: ACK written, 256 ranges", write_acks_lent, RANGES_256},
+    {"lent: ACK written, 512 ranges", write_acks_lent, RANGES_512},
+    {"lent: ACK with counts written, 8 ranges", write_acks_lent, COUNTED},
+    {"lent: ACK written after two hours, 2 % loss", write_acks_lent, SITTINGS},
+    {"lent: the same, the ACK before confirmed", write_acks_lent, CONFIRMED},
     {"report of 50 entries read", read_reports, OLD_LIST},
     {"report of 200 entries read", read_reports, LONG_LIST},
     {"report of 50 entries written", write_reports, OLD_LIST},
@@ -148,6 +153,18 @@ static void print_entries(int profile, int old, int long_one)
            best_of(write_reports, old) / 50, best_of(write_reports, long_one) / 200);
 }
 
+/* The same of an ACK: what it costs with so many ranges, for each of them. */
+static void print_ranges(void)
+{
+    static const struct {
+        int kind, ranges;
+    } written[] = {{ONE_RANGE, 1}, {EIGHT_RANGES, 8}, {SIXTY_FOUR_RANGES, 64}, {RANGES_256, 256}, {RANGES_512, 512}};
+    printf("An ACK written, record lent, takes for each of its ranges:");
+    for (size_t i = 0; i < sizeof written / sizeof written[0]; i++)
+        printf("%s %.1f ns of %d", i ? "," : "", best_of(write_acks_lent, written[i].kind) / written[i].ranges, written[i].ranges);
+    printf(".\n");
+}
+
 /* The processor's own name, as the system tells it. */
 static void print_machine(void)
 {
@@ -184,6 +201,7 @@ int main(void)
     time_all();
     print_table();
     print_bytes();
+    print_ranges();
     print_entries(LUMBIXET_PROFILE_1, OLD_LIST, LONG_LIST);
     print_entries(LUMBIXET_PROFILE_2, OLD_GROUPS, LONG_GROUPS);
     return 0;

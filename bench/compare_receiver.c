@@ -252,7 +252,7 @@ void compare_receiver(void)
             compare_traffic(&traffic[pattern][r]);
     for (int kind = 0; kind < ACK_KINDS; kind++)
         for (size_t v = 0; v < VARIANTS; v++)
-            for (size_t room = 0; room <= 300; room++)
+            for (size_t room = 0; room <= FRAME_ROOM; room++)
                 compare_write(&acks[kind].records[v], acks[kind].time, room);
     compare_dense_windows();
     compare_sitting();

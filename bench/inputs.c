@@ -49,13 +49,13 @@ static void make_frame(struct acks *made, size_t v, uint64_t ranges)
 {
     lumbixet_wrote wrote = plain_write(made->records[v], made->time, made->counts, made->frames[v], FRAME_ROOM);
     made->lengths[v] = wrote.length;
-    uint64_t pairs[128];
+    uint64_t pairs[1024];
     expect(wrote.result == 0, "an ACK frame");
-    lumbixet_ack ack = plain_read_ack(made->frames[v], wrote.length, pairs, 128);
+    lumbixet_ack ack = plain_read_ack(made->frames[v], wrote.length, pairs, 1024);
     expect(ack.result == 0 && (ranges == 0 || ack.ranges == ranges), "a number of ranges");
 }
 
-/* One gap of 1 to 3 numbers at the start of each of `ranges` equal parts of the window. */
+/* One gap of 1 to 3 numbers, of 1 where a part has but 2, at the start of each of `ranges` equal parts of the window. */
 static void make_acks(struct acks *made, uint64_t ranges, uint64_t seed)
 {
     uint64_t state = seed;
@@ -66,7 +66,7 @@ static void make_acks(struct acks *made, uint64_t ranges, uint64_t seed)
         uint64_t gap = 0;
         for (uint64_t n = 0; n < 2 * 1024; n++) {
             if (n % part == 0)
-                gap = 1 + pick(&state) % 3;
+                gap = 1 + pick(&state) % (part > 3 ? 3 : part - 1);
             if (n % part >= gap)
                 record = plain_packet(record, 1000000 * 1024 + n, arrival(n), true, LUMBIXET_ECN_ECT0).next;
         }
@@ -212,6 +212,8 @@ void make_inputs(void)
     make_acks(&acks[ONE_RANGE], 1, 5);
     make_acks(&acks[EIGHT_RANGES], 8, 6);
     make_acks(&acks[SIXTY_FOUR_RANGES], 64, 7);
+    make_acks(&acks[RANGES_256], 256, 8);
+    make_acks(&acks[RANGES_512], 512, 9);
     acks[COUNTED].counts = true;
     make_acks(&acks[COUNTED], 8, 6);
     make_sittings(&acks[SITTINGS], false);

@@ -50,9 +50,11 @@ struct reports {
     size_t lengths[VARIANTS];
 };
 
-/* COUNTED is EIGHT_RANGES as type 03. The last two are the ends of sittings with 2 % loss; in CONFIRMED each ACK was
- * confirmed before the next one. */
-enum { ONE_RANGE, EIGHT_RANGES, SIXTY_FOUR_RANGES, COUNTED, SITTINGS, CONFIRMED, ACK_KINDS };
+/* From 65 ranges on the range count takes two bytes, and no window has more than 512. COUNTED is EIGHT_RANGES as type 03. The
+ * last two are the ends of sittings with 2 % loss; in CONFIRMED each ACK was confirmed before the next one. */
+enum {
+    ONE_RANGE, EIGHT_RANGES, SIXTY_FOUR_RANGES, RANGES_256, RANGES_512, COUNTED, SITTINGS, CONFIRMED, ACK_KINDS
+};
 enum { IN_ORDER, LOSS, SWAPPED, PATTERNS };
 /* So many entries each: as many as old receivers take, and as many as there may be; then the same in profile 2. Then as many as
  * there may be where the last one alone was not received, the middle one alone, or none; and the same in profile 2. */

@@ -4,12 +4,12 @@
 use crate::random::Random;
 use crate::tally::Tally;
 use crate::{compare_codec, compare_counts, compare_forms, compare_limits, compare_newest, compare_profiles};
-use crate::{compare_receiver, compare_report, compare_totals, compare_tracker};
+use crate::{compare_ranges, compare_receiver, compare_report, compare_totals, compare_tracker};
 
 /// Each round takes a made-up record through all calls, goes on with a grown one, and reads and writes frames and a report.
 /// Some rounds take a report through all its longer forms, some through the counts of entries at the limit, some through what
 /// the profiles tell apart, some through the search for the newest lost object, some take the tracker's records through its
-/// calls, and some a week's totals.
+/// calls, and some a week's totals. The first rounds write a window of each number of ranges.
 pub fn run(count: usize) -> Result<(), String> {
     let mut random = Random::from_seed(2);
     let mut tally = Tally::default();
@@ -19,6 +19,9 @@ pub fn run(count: usize) -> Result<(), String> {
         compare_codec::round(&mut random, &mut tally)?;
         compare_counts::round(&mut random, &mut tally)?;
         compare_report::round(&mut random, &mut tally)?;
+        if (round as u64) < compare_ranges::MOST {
+            compare_ranges::write(&mut random, &mut tally, round as u64 + 1)?;
+        }
         if round % 20 == 0 {
             compare_forms::round(&mut random, &mut tally)?;
         }

@@ -25,6 +25,8 @@ mod compare_newest;
 #[cfg(archive)]
 mod compare_profiles;
 #[cfg(archive)]
+mod compare_ranges;
+#[cfg(archive)]
 mod compare_receiver;
 mod compare_replay;
 #[cfg(archive)]

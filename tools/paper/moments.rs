@@ -45,7 +45,7 @@ pub const CAN_GIVE: [(&str, &[u64]); 40] = [
 ];
 
 /// What must have happened in accepted and refused calls beyond their results.
-pub const MOMENTS: [&str; 146] = [
+pub const MOMENTS: [&str; 149] = [
     "1 for nothing but a floor above L",
     "1 for nothing but a floor while nothing was received",
     "7 though it was received and lies within 1,024 of L",
@@ -69,6 +69,9 @@ pub const MOMENTS: [&str; 146] = [
     "CE counted",
     "a packet without a mark counted",
     "02 and 03 at every room",
+    "a window of 64 ranges at every room",
+    "a window of 65 ranges at every room",
+    "a window of 512 ranges at every room",
     "9 for 03 in a room that holds 02",
     "03 with fewer ranges than 02 in the same room",
     "03 written with a count of 1 byte",

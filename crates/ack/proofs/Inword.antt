@@ -41,6 +41,14 @@ module _ (xs : List ℕ) (p x : ℕ) (l : p < 1024) (h : x < 2 ^ 64) (e : x ≡ 
       let w = in-word (wordsIn 16 xs) (lent xs) true (p - m) x d (λ z. f (ap (λ (j : ℕ). (otherThan true x * 2 ^ (63 - j)) % 2 ^ 64) (sym r) ∙ z)) in
       ap (λ (n : ℕ). runBelow true n (lentValue xs)) t ∙ w .1 ∙ ap (runIn true x) r
 
+  -- nothing is marked from p down in its word
+  pub gap-goes-on : (x * 2 ^ (63 - p % 64)) % 2 ^ 64 ≡ 0 → runBelow false (p + 1) (lentValue xs) ≡ p % 64 + 1 + runBelow false (p - p % 64) (lentValue xs)
+  gap-goes-on z =
+      let d : x ≡ getD (wordsIn 16 xs) (p / 64) 0 = lent-word xs (p / 64) x (omega arith) h e in
+      let y : ℕ = getD (wordsIn 16 xs) (p / 64) 0 in
+      word-skip (wordsIn 16 xs) (lent xs) false p
+      (no-other false y (p % 64) (lent xs .words (p / 64)) (omega arith) (ap (λ (v : ℕ). (v * 2 ^ (63 - p % 64)) % 2 ^ 64) (sym d) ∙ z))
+
 -- whole words from the top: x is the last word below place `left`
 module _ (ws : List ℕ) (h : Sixteen ws) (left x : ℕ) (g : left % 64 ≡ 0) (k : 0 < left) (e : x ≡ getD ws (left / 64 - 1) 0) where
   last-word : x ≡ getD ws ((left - 1) / 64) 0

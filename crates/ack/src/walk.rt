@@ -57,7 +57,7 @@ pub(crate) fn first_size(seen: Seen) -> u64
 }
 
 // The same from the word that holds the place below: most ranges lie in one word.
-fn range_at(words: &[u64; 16], word: u64, place: u64) -> Range
+fn range_in(words: &[u64; 16], word: u64, place: u64) -> Range
     requires { ⌜ (0 < place) × (place ≤ places) × (word ≡ getD (now words) ((place - 1) / 64) 0) ⌝ }
     ensures { λ r. ⌜ (r .missing ≡ runBelow false place (lentValue (now (words .entry)))) × (r .size ≡ runBelow true (place - runBelow false place (lentValue (now (words .entry)))) (lentValue (now (words .entry)))) ⌝ }
 {
@@ -74,6 +74,30 @@ fn range_at(words: &[u64; 16], word: u64, place: u64) -> Range
     }
     let size = u64::leading_zeros(other) as u64;
     Range { missing, size }
+}
+
+// The same where what is missing may go on into the word below that one.
+fn range_at(words: &[u64; 16], word: u64, place: u64) -> Range
+    requires { ⌜ (0 < place) × (place ≤ places) × (word ≡ getD (now words) ((place - 1) / 64) 0) ⌝ }
+    ensures { λ r. ⌜ (r .missing ≡ runBelow false place (lentValue (now (words .entry)))) × (r .size ≡ runBelow true (place - runBelow false place (lentValue (now (words .entry)))) (lentValue (now (words .entry)))) ⌝ }
+{
+    let k = (place - 1) % 64;
+    if word << (63 - k) != 0 {
+        return range_in(words, word, place);
+    }
+    let next = place - (k + 1);
+    if next == 0 {
+        return Range {
+            missing: place,
+            size: 0,
+        };
+    }
+    let other = word_at(words, ((next - 1) / 64) as usize);
+    let range = range_in(words, other, next);
+    Range {
+        missing: k + 1 + range.missing,
+        size: range.size,
+    }
 }
 
 // How many bytes a gap or a length takes: it is below 1,024, the places of a window.
