@@ -151,7 +151,7 @@ pub(crate) fn put_ranges(
 {
     // No place below that of number 0 is marked.
     let none_below = numbers::minus_or_zero(window::PLACES, seen.end);
-    let mut at = from;
+    let mut end = from;
     let mut place = low;
     let mut count: u64 = 0;
     // The word that holds the place below.
@@ -170,27 +170,21 @@ pub(crate) fn put_ranges(
         // Gap and length, each one less than what it counts.
         let gap = range.missing - 1;
         let more = range.size - 1;
-        let end = at + short_width(gap) + short_width(more);
-        if room < end {
+        let after = end + short_width(gap) + short_width(more);
+        if room < after {
             break;
         }
         if count == most {
-            return Walked {
-                count,
-                end: at,
-                over: end < room,
-            };
+            let over = after < room;
+            return Walked { count, end, over };
         }
-        let next = put_short(buf, at, gap);
-        at = put_short(buf, next, more);
+        let next = put_short(buf, end, gap);
+        end = put_short(buf, next, more);
         place = place - range.missing - range.size;
         count += 1;
     }
-    Walked {
-        count,
-        end: at,
-        over: false,
-    }
+    let over = false;
+    Walked { count, end, over }
 }
 
 // How much room a frame with the first range alone takes, without counts.

@@ -19,11 +19,11 @@ use Rattle.ack.proofs.walk.put_ranges.Statement.{statement}
 use Rattle.ack.proofs.walk.put_ranges.Tie as tie
 
 abbrev Inv-loop : tie.InvT-loop
-Inv-loop low delay most from room buf₀ seen none-below at₀ place₀ count₀ index₀ word₀ buf at place count index word =
-    Walking seen delay room most from buf₀ buf at place count × (word ≡ getD (seen .window .words) index 0)
+Inv-loop low delay most from room buf₀ seen none-below end₀ place₀ count₀ index₀ word₀ buf end place count index word =
+    Walking seen delay room most from buf₀ buf end place count × (word ≡ getD (seen .window .words) index 0)
 
 abbrev μ-loop : tie.MeasureT-loop
-μ-loop low delay most from room buf₀ seen none-below at₀ place₀ count₀ index₀ word₀ buf at place count index word = place
+μ-loop low delay most from room buf₀ seen none-below end₀ place₀ count₀ index₀ word₀ buf end place count index word = place
 
 started : (c : tie.Start Inv-loop μ-loop) → Begun (c .args .t1)
 started c = begun (c .args .t1) (c .pre .0) (c .pre .1)
@@ -72,7 +72,7 @@ abbrev found : tie.After-short-width2 Inv-loop μ-loop → tie.Else2 Inv-loop μ
 found c = c .before .before .before .before
 
 fits : (c : tie.Else3 Inv-loop μ-loop)
-    → head (found (c .before) .before .before) .loop .at + widthOf (found (c .before) .before .before .range-at .result .missing - 1) + widthOf (found (c .before) .before .before .range-at .result .size - 1)
+    → head (found (c .before) .before .before) .loop .end + widthOf (found (c .before) .before .before .range-at .result .missing - 1) + widthOf (found (c .before) .before .before .range-at .result .size - 1)
     ≤ origin (head (found (c .before) .before .before)) .args .room
 fits c = omega (arith, c .before .before .short-width .ensures, c .before .short-width2 .ensures, c .if3 .left)
 
@@ -124,16 +124,16 @@ sub-more c = omega (arith, sizes (c .before .before))
 short-width-requires : tie.Need-short-width-requires Inv-loop μ-loop
 short-width-requires c κs = omega (arith, sizes (c .before .before))
 
-add-end : tie.Need-add-end Inv-loop μ-loop
-add-end c =
+add-after : tie.Need-add-after Inv-loop μ-loop
+add-after c =
     let l = head (c .before .before .before .before .before) in
     omega (arith, narrow _ (c .short-width .ensures), l .loop .inv .0 .within, origin l .pre .3, origin l .good .1 .1 .1 .1 .1 .1 .0 .1)
 
 short-width-requires-2 : tie.Need-short-width-requires-2 Inv-loop μ-loop
 short-width-requires-2 c κs = omega (arith, sizes (c .before .before .before))
 
-add-end-2 : tie.Need-add-end-2 Inv-loop μ-loop
-add-end-2 c =
+add-after-2 : tie.Need-add-after-2 Inv-loop μ-loop
+add-after-2 c =
     let l = head (found c .before .before) in
     omega (arith, narrow _ (c .before .short-width .ensures), narrow _ (c .short-width2 .ensures), l .loop .inv .0 .within, origin l .pre .3, origin l .good .1 .1 .1 .1 .1 .1 .0 .1)
 
@@ -237,9 +237,9 @@ put-ranges-spec =
     sub-gap
     sub-more
     short-width-requires
-    add-end
+    add-after
     short-width-requires-2
-    add-end-2
+    add-after-2
     same-length
     returns
     put-short-requires
