@@ -76,6 +76,13 @@ static const struct row rows[] = {
     {"object arrived, record lent", arrive_objects, 0},
     {"report of 256 objects made, all arrived", report_objects, 0},
     {"report of 256 objects made, 255 lost", report_objects, 1},
+    {"number sent, record lent", send_numbers, 0},
+    {"number sent, 2 % loss", hear_stream, 0},
+    {"ACK of 1 range heard", hear_acks, HEARD_ONE},
+    {"ACK of 8 ranges heard", hear_acks, HEARD_EIGHT},
+    {"ACK of 64 ranges heard", hear_acks, HEARD_SIXTY_FOUR},
+    {"ACK heard, 2 % loss", hear_stream, 1},
+    {"ACK of 8 ranges heard, all 1,024 listed", hear_acks, HEARD_ALL},
 };
 
 /* Neither side: in the timer's place a function that only copies. */
@@ -186,11 +193,13 @@ static void print_machine(void)
 int main(void)
 {
     make_inputs();
+    make_sent_inputs();
     compare_numbers();
     compare_frames();
     compare_receiver();
     compare_reports();
     compare_trackers();
+    compare_sent();
     printf("Compared before timing: %" PRIu64 " answers, all the same on both sides.\n\n", compared());
     measure_clock();
     print_machine();

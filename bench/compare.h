@@ -9,5 +9,6 @@ void compare_frames(void);
 void compare_receiver(void);
 void compare_reports(void);
 void compare_trackers(void);
+void compare_sent(void);
 
 #endif

@@ -2,7 +2,7 @@
 #ifndef INPUTS_H
 #define INPUTS_H
 
-#include "lumbixet.h"
+#include "lumbixet_sent.h"
 
 enum {
     PART = 4096,     /* numbers on the wire for one round */
@@ -13,6 +13,7 @@ enum {
     WARM = 2048,     /* packets before the first that is timed: the window is full by then */
     PACKETS = 4096,
     BLOCK = 32,      /* packets between two writes */
+    BLOCKS = (WARM + PACKETS) / BLOCK,
     STEP_US = 100,   /* microseconds between two packets */
     SITTING = 45000 * BLOCK, /* packets of two hours, one every 5 ms */
     REPORT_ROOM = 5000
@@ -50,12 +51,28 @@ struct reports {
     size_t lengths[VARIANTS];
 };
 
+/* ACK frames, and for each a record of the sending side before it hears it. */
+struct heard {
+    lumbixet_losses records[VARIANTS];
+    uint8_t frames[VARIANTS][FRAME_ROOM];
+    size_t lengths[VARIANTS];
+};
+
+/* The ACK of each block of a line with 2 % loss, and how many numbers were sent before it is heard. */
+struct stream {
+    uint8_t frames[BLOCKS][FRAME_ROOM];
+    size_t lengths[BLOCKS];
+    uint64_t sent[BLOCKS];
+};
+
 /* From 65 ranges on the range count takes two bytes, and no window has more than 512. COUNTED is EIGHT_RANGES as type 03. The
  * last two are the ends of sittings with 2 % loss; in CONFIRMED each ACK was confirmed before the next one. */
 enum {
     ONE_RANGE, EIGHT_RANGES, SIXTY_FOUR_RANGES, RANGES_256, RANGES_512, COUNTED, SITTINGS, CONFIRMED, ACK_KINDS
 };
 enum { IN_ORDER, LOSS, SWAPPED, PATTERNS };
+/* The first three hear of a block more; HEARD_ALL, of eight ranges, of everything for the first time. */
+enum { HEARD_ONE, HEARD_EIGHT, HEARD_SIXTY_FOUR, HEARD_ALL, HEARD_KINDS };
 /* So many entries each: as many as old receivers take, and as many as there may be; then the same in profile 2. Then as many as
  * there may be where the last one alone was not received, the middle one alone, or none; and the same in profile 2. */
 enum {
@@ -67,8 +84,13 @@ extern struct numbers numbers;
 extern struct acks acks[ACK_KINDS];
 extern struct traffic traffic[PATTERNS][2]; /* R = 1, R = 3 */
 extern struct reports reports[REPORT_KINDS];
+extern struct heard heard[HEARD_KINDS];
+extern struct stream stream;
 
 void make_inputs(void);
+
+/* After the others, of which it is made. */
+void make_sent_inputs(void);
 
 /* The next pseudo-random number (splitmix64). */
 uint64_t pick(uint64_t *state);

@@ -1,5 +1,5 @@
 /* What an engineer would write by hand from document 01, with the same answers and no proof: numbers and frames. */
-#include "plain_numbers.h"
+#include "plain_ack.h"
 
 lumbixet_number plain_read_number(const uint8_t *bytes, size_t length, size_t at)
 {
@@ -21,16 +21,6 @@ lumbixet_put plain_put_number(uint8_t *buffer, size_t length, size_t at, uint64_
 }
 
 /* ---- frames */
-
-/* Reads a frame type, which is either of two: 2 where it is cut, 3 where it is another one or not in shortest form. */
-static uint64_t take_either(struct reader *reader, uint64_t one, uint64_t other, uint64_t *found)
-{
-    if (!take(reader, found))
-        return LUMBIXET_ENDS;
-    if ((*found != one && *found != other) || reader->at != width(*found))
-        return LUMBIXET_OTHER_TYPE;
-    return LUMBIXET_ACCEPTED;
-}
 
 static uint64_t take_type(struct reader *reader, uint64_t type)
 {
@@ -58,26 +48,6 @@ lumbixet_immediate_frame plain_read_immediate(const uint8_t *bytes, size_t lengt
     return (lumbixet_immediate_frame){result, result ? 0 : reader.at};
 }
 
-/* Walks over all ranges and writes nothing: 2 and 14 come before the room is judged. */
-static uint64_t check_ranges(struct reader *reader, uint64_t largest, uint64_t count)
-{
-    for (;;) {
-        uint64_t size, gap;
-        if (!take(reader, &size))
-            return LUMBIXET_ENDS;
-        if (largest < size)
-            return LUMBIXET_BELOW_ZERO;
-        if (count-- == 0)
-            return LUMBIXET_ACCEPTED;
-        largest -= size;
-        if (!take(reader, &gap))
-            return LUMBIXET_ENDS;
-        if (largest < gap + 2)
-            return LUMBIXET_BELOW_ZERO;
-        largest -= gap + 2;
-    }
-}
-
 /* Writes the ranges that were checked, smallest before largest. */
 static void fill_ranges(const uint8_t *p, uint64_t largest, uint64_t count, uint64_t *ranges)
 {
@@ -93,24 +63,15 @@ static void fill_ranges(const uint8_t *p, uint64_t largest, uint64_t count, uint
 
 lumbixet_ack plain_read_ack(const uint8_t *bytes, size_t length, uint64_t *ranges, size_t room)
 {
-    struct reader reader = {bytes, length, 0};
-    uint64_t type, largest, delay, count;
-    uint64_t result = take_either(&reader, ACK, ACK_WITH_COUNTS, &type);
+    struct checked ack;
+    uint64_t result = check_ack(bytes, length, &ack);
     if (result)
         return (lumbixet_ack){.result = result};
-    if (!take(&reader, &largest) || !take(&reader, &delay) || !take(&reader, &count))
-        return (lumbixet_ack){.result = LUMBIXET_ENDS};
-    size_t start = reader.at;
-    result = check_ranges(&reader, largest, count);
-    if (result)
-        return (lumbixet_ack){.result = result};
-    uint64_t counted = type == ACK_WITH_COUNTS, ect0 = 0, ect1 = 0, ce = 0;
-    if (counted && (!take(&reader, &ect0) || !take(&reader, &ect1) || !take(&reader, &ce)))
-        return (lumbixet_ack){.result = LUMBIXET_ENDS};
-    if (room / 2 <= count)
+    if (room / 2 <= ack.count)
         return (lumbixet_ack){.result = LUMBIXET_NO_ROOM};
-    fill_ranges(bytes + start, largest, count, ranges);
-    return (lumbixet_ack){LUMBIXET_ACCEPTED, largest, delay, count + 1, reader.at, counted, ect0, ect1, ce};
+    fill_ranges(bytes + ack.ranges, ack.largest, ack.count, ranges);
+    return (lumbixet_ack){LUMBIXET_ACCEPTED, ack.largest, ack.delay, ack.count + 1, ack.used,
+                          ack.counted,       ack.ect0,    ack.ect1,  ack.ce};
 }
 
 lumbixet_put plain_put_frequency(uint8_t *buffer, size_t length, uint64_t sequence, uint64_t threshold, uint64_t delay,

@@ -2,6 +2,7 @@
 #ifndef PLAIN_H
 #define PLAIN_H
 
+#include "lumbixet_sent.h"
 #include "lumbixet_tracker.h"
 
 lumbixet_number plain_read_number(const uint8_t *bytes, size_t length, size_t at);
@@ -40,5 +41,10 @@ uint64_t plain_tracker_arrived(lumbixet_tracker *tracker, uint64_t object, uint6
 uint64_t plain_tracker_ended_early(lumbixet_tracker *tracker, uint64_t object, uint64_t time);
 lumbixet_report plain_tracker_report(const lumbixet_tracker *tracker, uint64_t time, uint64_t interval, uint8_t *entries,
                                      size_t length);
+
+void plain_losses_open(lumbixet_losses *losses);
+lumbixet_sent plain_losses_send(lumbixet_losses *losses);
+lumbixet_heard plain_losses_heard(lumbixet_losses *losses, const uint8_t *frame, size_t length, uint64_t *acknowledged,
+                                  size_t acknowledged_length, uint64_t *lost, size_t lost_length);
 
 #endif

@@ -21,6 +21,11 @@ double write_reports(const struct side *side, int kind, int round);
 double arrive_objects(const struct side *side, int kind, int round);
 double report_objects(const struct side *side, int kind, int round);
 
+/* The sending side. */
+double send_numbers(const struct side *side, int kind, int round);
+double hear_acks(const struct side *side, int kind, int round);
+double hear_stream(const struct side *side, int kind, int round);
+
 /* On a lent record; and on those of ROOMS rooms in turn, for kind R = 1 (0) or R = 3 (1). */
 enum { ROOMS = 2000 };
 double take_packets_lent(const struct side *side, int kind, int round);

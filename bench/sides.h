@@ -2,6 +2,7 @@
 #ifndef SIDES_H
 #define SIDES_H
 
+#include "lumbixet_sent.h"
 #include "lumbixet_tracker.h"
 
 struct side {
@@ -31,6 +32,9 @@ struct side {
     uint64_t (*tracker_arrived)(lumbixet_tracker *, uint64_t, uint64_t, uint64_t);
     uint64_t (*tracker_ended_early)(lumbixet_tracker *, uint64_t, uint64_t);
     lumbixet_report (*tracker_report)(const lumbixet_tracker *, uint64_t, uint64_t, uint8_t *, size_t);
+    void (*losses_open)(lumbixet_losses *);
+    lumbixet_sent (*losses_send)(lumbixet_losses *);
+    lumbixet_heard (*losses_heard)(lumbixet_losses *, const uint8_t *, size_t, uint64_t *, size_t, uint64_t *, size_t);
 };
 
 extern const struct side archive;

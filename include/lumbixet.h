@@ -22,7 +22,7 @@
  * earlier version is opened anew. 0.4 brought lumbixet_lent.h. 0.5 brought reports of 200 entries:
  * lumbixet_write_report takes the most that it may write. 0.6 brought profile 2 of the report: the calls of
  * lumbixet_report.h take the profile first, lumbixet_header holds 8 metrics, and lumbixet_entry has the group. 0.7 brought
- * lumbixet_totals.h. 0.8 brought lumbixet_newest_lost. Numbers keep their meaning.
+ * lumbixet_totals.h. 0.8 brought lumbixet_newest_lost. 0.9 brought lumbixet_sent.h. Numbers keep their meaning.
  */
 #ifndef LUMBIXET_H
 #define LUMBIXET_H
@@ -37,10 +37,10 @@ extern "C" {
 
 /* The version of this header and of the archive that goes with it: its parts, one number to compare, and its name. */
 #define LUMBIXET_VERSION_MAJOR 0
-#define LUMBIXET_VERSION_MINOR 8
+#define LUMBIXET_VERSION_MINOR 9
 #define LUMBIXET_VERSION_PATCH 0
 #define LUMBIXET_VERSION (10000 * LUMBIXET_VERSION_MAJOR + 100 * LUMBIXET_VERSION_MINOR + LUMBIXET_VERSION_PATCH)
-#define LUMBIXET_VERSION_TEXT "0.8.0"
+#define LUMBIXET_VERSION_TEXT "0.9.0"
 
 /* The largest number, threshold and time: 2^62 - 1. */
 #define LUMBIXET_LARGEST UINT64_C(4611686018427387903)
@@ -70,6 +70,7 @@ enum {
     LUMBIXET_BYTES_BEHIND = 13, /* bytes remain after a report */
     LUMBIXET_BELOW_ZERO = 14,   /* an ACK range goes below number 0 */
     LUMBIXET_LONGER_FORM = 15,  /* a report's number is not in its shortest form */
+    LUMBIXET_NEVER_SENT = 16,   /* of the loss list: the frame acknowledges a number that was never sent */
     LUMBIXET_OUTSIDE = 17,      /* of the tracker: the object is none of the 256 */
     LUMBIXET_OTHER_PROFILE = 18, /* the report's profile is neither 1 nor 2 */
     LUMBIXET_NOT_ACKNOWLEDGED = 19, /* the confirmed number is above the largest acknowledged, or none is acknowledged */

@@ -24,15 +24,12 @@ static inline const char *lumbixet_refusal_text(uint64_t result)
         "bytes remain after the report",
         "a range goes below number 0",
         "a number is not in its shortest form",
+        "a number is acknowledged that was never sent",
+        "the object is none of those tracked",
+        "the profile is another one",
+        "this number was not acknowledged yet",
+        "the report is too long",
     };
-    if (result == LUMBIXET_OUTSIDE)
-        return "the object is none of those tracked";
-    if (result == LUMBIXET_OTHER_PROFILE)
-        return "the profile is another one";
-    if (result == LUMBIXET_NOT_ACKNOWLEDGED)
-        return "this number was not acknowledged yet";
-    if (result == LUMBIXET_TOO_LONG)
-        return "the report is too long";
     if (result == LUMBIXET_STALE)
         return "the frame is stale";
     return result < sizeof texts / sizeof texts[0] ? texts[result] : "unknown";

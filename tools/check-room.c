@@ -164,8 +164,7 @@ static void wake(void)
 static void texts(void)
 {
     for (uint64_t a = 0; a <= 300; a++) {
-        bool named = a <= LUMBIXET_LONGER_FORM || (a >= LUMBIXET_OUTSIDE && a <= LUMBIXET_NOT_ACKNOWLEDGED) || a == LUMBIXET_TOO_LONG ||
-                     a == LUMBIXET_STALE;
+        bool named = a <= LUMBIXET_TOO_LONG || a == LUMBIXET_STALE;
         HOLDS((strcmp(lumbixet_refusal_text(a), "unknown") != 0) == named);
         HOLDS((strcmp(lumbixet_cause_text(a), "unknown") != 0) == (a <= LUMBIXET_TIMER));
         for (uint64_t b = 0; named && b < a; b++)

@@ -1,7 +1,8 @@
-/* What the C of docs/DRIVING.md and docs/TRACKING.md leaves to the host, so that `make host` can see that it compiles. */
+/* What the C of docs/DRIVING.md, docs/TRACKING.md and docs/SENDING.md leaves to the host, so that `make host` can see that it compiles. */
 #include <inttypes.h>
 #include <stdio.h>
 
+#include "lumbixet_sent.h"
 #include "lumbixet_tracker.h"
 
 bool transmit(const uint8_t *frame, uint64_t length);

@@ -50,6 +50,11 @@ fn append_tail(random: &mut Random, bytes: &mut Vec<u8>) {
 fn ack_frame(random: &mut Random) -> Vec<u8> {
     let count = random.one_of(&[0, 1, 2, 5, 63, 64, 70]);
     let largest = if random.chance(500) { up_to(random, LARGEST) } else { random.below(4 * count + 8) };
+    ack_frame_of(random, largest, count, |random| if random.chance(980) { random.below(2) } else { up_to(random, largest) })
+}
+
+/// An ACK frame of either type with so many ranges after the first, whose gaps and lengths are made by the caller.
+pub fn ack_frame_of(random: &mut Random, largest: u64, count: u64, step: impl Fn(&mut Random) -> u64) -> Vec<u8> {
     let said = if random.chance(50) { random.one_of(&[count + 1, LARGEST, LARGEST / 2 + 1]) } else { count };
     let kind = random.between(2, 3);
     let mut bytes = Vec::new();
@@ -59,7 +64,7 @@ fn ack_frame(random: &mut Random) -> Vec<u8> {
         append_in_some_form(random, &mut bytes, value);
     }
     for _ in 0..2 * count + 1 {
-        let value = if random.chance(980) { random.below(2) } else { up_to(random, largest) };
+        let value = step(random);
         append_in_some_form(random, &mut bytes, value);
     }
     for _ in 0..tail {

@@ -32,6 +32,8 @@ mod compare_replay;
 #[cfg(archive)]
 mod compare_report;
 #[cfg(archive)]
+mod compare_sent;
+#[cfg(archive)]
 mod compare_totals;
 #[cfg(archive)]
 mod compare_tracker;
@@ -43,6 +45,7 @@ mod examples_newest;
 mod examples_profile;
 mod examples_receiver;
 mod examples_report;
+mod examples_sent;
 mod examples_tracker;
 mod examples_wire;
 mod frames;
@@ -52,6 +55,8 @@ mod made_up;
 mod made_up_bytes;
 #[cfg(archive)]
 mod made_up_report;
+#[cfg(archive)]
+mod made_up_sent;
 #[cfg(archive)]
 mod made_up_tracker;
 #[cfg(archive)]
@@ -66,6 +71,7 @@ mod refusals;
 mod relay;
 mod replay;
 mod report;
+mod sent;
 #[cfg(archive)]
 mod tally;
 mod traces;

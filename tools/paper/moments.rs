@@ -1,7 +1,7 @@
 //! What the comparison with the archive must have seen: every result of every call, and moments beyond that.
 
 /// Each call with every result that it can give.
-pub const CAN_GIVE: [(&str, &[u64]); 40] = [
+pub const CAN_GIVE: [(&str, &[u64]); 43] = [
     ("open", &[0, 5, 4]),
     ("packet", &[0, 1, 5, 6, 7]),
     ("timer", &[0, 1, 5]),
@@ -38,6 +38,9 @@ pub const CAN_GIVE: [(&str, &[u64]); 40] = [
     ("tracker_arrived", &[0, 1, 5, 17]),
     ("tracker_ended_early", &[0, 1, 5, 17]),
     ("tracker_report", &[0, 1, 5, 9]),
+    ("losses_open", &[0]),
+    ("losses_send", &[0, 1, 5, 9]),
+    ("losses_heard", &[0, 1, 2, 3, 14, 16, 9]),
     ("totals_open", &[0]),
     ("totals_add", &[0, 2, 10, 11, 12, 13, 15, 20]),
     ("totals_piece", &[0]),
@@ -45,7 +48,7 @@ pub const CAN_GIVE: [(&str, &[u64]); 40] = [
 ];
 
 /// What must have happened in accepted and refused calls beyond their results.
-pub const MOMENTS: [&str; 149] = [
+pub const MOMENTS: [&str; 182] = [
     "1 for nothing but a floor above L",
     "1 for nothing but a floor while nothing was received",
     "7 though it was received and lies within 1,024 of L",
@@ -186,6 +189,39 @@ pub const MOMENTS: [&str; 149] = [
     "9 for one byte less than the whole",
     "an age that stopped at the largest",
     "an age of 0 for an object that arrived",
+    "1 for nothing but a number both acknowledged and lost",
+    "1 for nothing but a mark outside the held numbers",
+    "1 for nothing but too few forgotten numbers",
+    "1 for nothing but too many forgotten numbers",
+    "1 for nothing but a next number above 2^62",
+    "1 for nothing but a largest acknowledged number that was never sent",
+    "1 for nothing but an outstanding number that should be lost",
+    "9 for the 1,025th send while the oldest is outstanding",
+    "a send in the room of an acknowledged number",
+    "a send in the room of a lost number",
+    "the 1,025th send",
+    "number 2^62 - 1 sent",
+    "5 after number 2^62 - 1, where the oldest is outstanding",
+    "5 after number 2^62 - 1, where there would be room",
+    "every room around the needed one, of both lists",
+    "both lists filled to their last place",
+    "16 where the lists have no room",
+    "16 before anything was sent",
+    "9 for the list of the acknowledged alone",
+    "9 for the list of the lost alone",
+    "9 for both lists",
+    "2 where 16 would be next",
+    "a lost number acknowledged later, and listed",
+    "a number acknowledged again, and not listed",
+    "a number lost by exactly 3",
+    "a number 2 below the largest that stays outstanding",
+    "a range over forgotten numbers alone, and nothing changed",
+    "a range that reaches below the oldest held number",
+    "ranges held and ranges forgotten in one frame",
+    "a frame below the largest of an earlier one",
+    "a frame of type 03 heard",
+    "a frame that lists nothing",
+    "all of 1,024 numbers listed",
     "a sum that reaches 2^64 - 1",
     "a sum that becomes full",
     "a sum that was full",

@@ -32,6 +32,8 @@ pub const BYTES_BEHIND: u64 = 13;
 pub const BELOW_ZERO: u64 = 14;
 /// "Report readers refuse a longer form": "given at the field, before 10 and 11" (document 02, No. 5)
 pub const LONGER_FORM: u64 = 15;
+/// "an acknowledged number never sent" (document 02, No. 9)
+pub const NEVER_SENT: u64 = 16;
 /// "an object outside the 256" (document 02, No. 4)
 pub const OUTSIDE: u64 = 17;
 /// "a profile other than 1 or 2" (document 02, No. 10)

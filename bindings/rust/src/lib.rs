@@ -5,7 +5,7 @@
 //!
 //! A host names this folder in its Cargo.toml: `lumbixet = { path = ".." }`. The archive is sought in the folder that
 //! LUMBIXET_LIB_DIR names; where it names none, in this checkout (`make archive`), then where pkg-config finds one.
-//! docs/DRIVING.md shows the order of calls, docs/TRACKING.md that of the tracker.
+//! docs/DRIVING.md shows the order of calls, docs/TRACKING.md that of the tracker, docs/SENDING.md that of the loss list.
 //!
 //! ```
 //! use lumbixet::{Cause, Mark, Micros, Millis, Packet, Receiver, ACK_ROOM};
@@ -36,6 +36,7 @@ pub mod raw;
 mod receiver;
 mod refusal;
 mod report;
+mod sent;
 mod tracker;
 mod week;
 
@@ -45,6 +46,7 @@ pub use profile::{Metrics, Profile, Record};
 pub use receiver::{Heard, Packet, Receiver};
 pub use refusal::{Cause, Refusal};
 pub use report::{Entries, Entry, Header, Lost, Report, Status, Written};
+pub use sent::{Changes, Losses, States, HELD, PACKET_THRESHOLD};
 pub use tracker::{Made, Tracker, TRACKED};
 pub use week::{Sum, Week, PAGE_ROOM, PIECE_LEAST};
 

@@ -2,6 +2,10 @@
 //! The second implementation (tools/paper) is held against the archive through this same file.
 #![allow(missing_docs)] // the C header says what each field is
 
+#[path = "raw_sent.rs"]
+mod sent;
+pub use sent::*;
+
 /// `lumbixet_receiver`: what may be absent is kept as an end, one past the number, with 0 for none.
 #[repr(C)]
 #[derive(Clone, Copy, Debug, Default, PartialEq, Eq)]

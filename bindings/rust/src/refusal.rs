@@ -36,6 +36,8 @@ pub enum Refusal {
     BelowZero,
     /// 15: a report's number is not in its shortest form.
     LongerForm,
+    /// 16: of the loss list: the frame acknowledges a number that was never sent.
+    NeverSent,
     /// 17: the object is none of the 256 that are tracked.
     Outside,
     /// 18: the report's profile is neither 1 nor 2; [`Profile`](crate::Profile) has no other, so no call of this crate gives it.
@@ -51,7 +53,7 @@ pub enum Refusal {
 use Refusal::*;
 
 /// Each with its number and its words.
-const REFUSALS: [(u64, Refusal, &str); 19] = [
+const REFUSALS: [(u64, Refusal, &str); 20] = [
     (1, Inconsistent, "the record is not consistent"),
     (2, Ends, "the bytes end inside a field"),
     (3, OtherType, "the frame type is another one"),
@@ -67,6 +69,7 @@ const REFUSALS: [(u64, Refusal, &str); 19] = [
     (13, BytesBehind, "bytes remain after the report"),
     (14, BelowZero, "a range goes below number 0"),
     (15, LongerForm, "a number is not in its shortest form"),
+    (16, NeverSent, "a number is acknowledged that was never sent"),
     (17, Outside, "the object is none of those tracked"),
     (18, OtherProfile, "the profile is another one"),
     (19, NotAcknowledged, "this number was not acknowledged yet"),

@@ -1,56 +1,45 @@
 -- What the ACK reader answers and leaves in the lent slice, once its ranges and its counts are read: one law for each end.
 -- Assumes nothing.
-use Prim.Native.Nat.{ℕ, _+_, _*_, _≤_, _<_}
+use Prim.Native.Nat.{ℕ, _+_, _*_, _≤_}
 use mathlib.Core.Path.{_≡_, refl, sym, ap, _∙_}
 use mathlib.Core.Bool.{Bool, true, false}
 use mathlib.Core.List.{List}
-use borrow.Author.Tests.{le-leb, lt-leb}
+use borrow.Author.Tests.{le-leb}
 use lib.ListN.{length}
 use Rattle.wire.specs.Bytes.{splice}
 use Rattle.wire.specs.Numbers.{readNumber}
 use Rattle.wire.specs.declared.Number.{Number}
 use Rattle.wire.specs.declared.Number.the-variants.{Value, Ends as Stops}
-use Rattle.wire.proofs.Reading.{stop, next, yes, no}
-use Rattle.frames.specs.Ack.{rangesFrom, readTail, readRest, AckRead, refused, afterRest, readRanges}
+use Rattle.wire.proofs.Reading.{stop, next, yes}
+use Rattle.frames.specs.Ack.{rangesFrom, readTail, readRest, AckRead, afterRest, readRanges, checkedRest}
 use Rattle.frames.specs.declared.Tail.{Tail}
 use Rattle.frames.specs.declared.Tail.the-variants.{Nothing, Counts}
 use Rattle.frames.specs.declared.Walk.{Walk}
 use Rattle.frames.specs.declared.Ending.{Ending}
 use Rattle.frames.specs.declared.Ending.the-variants.{Whole, Ends, BelowZero}
 use Rattle.frames.specs.declared.Ack.{Ack}
-use Rattle.frames.specs.declared.Ack.the-variants.{Frame, Ends as Cut, BelowZero as Below, NoRoom}
+use Rattle.frames.specs.declared.Ack.the-variants.{Frame}
 
 -- an equation of the two is one of each
 pub both : {a : Ack} {ys : List ℕ} {x : AckRead} → record { answer = a; slice = ys } ≡ x → (a ≡ x .answer) × (ys ≡ x .slice)
 both e = (ap (λ (r : AckRead). r .answer) e, ap (λ (r : AckRead). r .slice) e)
 
-pub joined : {a : Ack} {ys : List ℕ} {x : AckRead} → a ≡ x .answer → ys ≡ x .slice → record { answer = a; slice = ys } ≡ x
-joined e d = rw (e, d)
-
 -- what comes after a walk that ended as u
 pub rest-so : (counted : Bool) (s : List ℕ) {u v w : Walk} → u ≡ v → u ≡ w → readRest counted s v ≡ readRest counted s w
 rest-so counted s t e = ap (readRest counted s) (sym t ∙ e)
 
--- w is how the ranges and what comes after them ended
-module _ (s : List ℕ) (at largest delay count : ℕ) (counted : Bool) (xs : List ℕ) {w : Ending} (e : w ≡ readRest counted s (rangesFrom count s at largest .walk)) where
-  ended-so : (v : Ending) → w ≡ v → afterRest v largest delay count (rangesFrom count s at largest .pairs) xs ≡ readRanges s at largest delay count counted xs
-  unfolding readRanges
-  ended-so v t = ap (λ (u : Ending). afterRest u largest delay count (rangesFrom count s at largest .pairs) xs) (sym t ∙ e)
+-- what a frame's numbers come to after an ending u
+pub checked-so : (at largest delay count : ℕ) {u v w : Ending} → u ≡ v → u ≡ w → checkedRest at largest delay count v ≡ checkedRest at largest delay count w
+checked-so at largest delay count t e = ap (checkedRest at largest delay count) (sym t ∙ e)
 
-  pub ranges-cut : w ≡ Ends → refused Cut xs ≡ readRanges s at largest delay count counted xs
-  ranges-cut t = ended-so Ends t
-
-  pub ranges-low : w ≡ BelowZero → refused Below xs ≡ readRanges s at largest delay count counted xs
-  ranges-low t = ended-so BelowZero t
-
-  module _ {tail : Tail} {used : ℕ} (t : w ≡ Whole tail used) where
-    pub no-room : length xs < 2 * (count + 1) → refused NoRoom xs ≡ readRanges s at largest delay count counted xs
-    no-room h = no _ _ (lt-leb (2 * (count + 1)) (length xs) h) refl ∙ ended-so (Whole tail used) t
-
-    -- ys is what the ranges' writer left
-    pub accepted : {ys : List ℕ} → 2 * (count + 1) ≤ length xs → ys ≡ splice xs 0 (rangesFrom count s at largest .pairs)
-        → record { answer = Frame largest delay (count + 1) used tail; slice = ys } ≡ readRanges s at largest delay count counted xs
-    accepted h d = yes _ _ (le-leb (2 * (count + 1)) (length xs) h) (rw d) ∙ ended-so (Whole tail used) t
+-- w is how the ranges and what comes after them ended, and ys is what the ranges' writer left
+pub accepted : (s : List ℕ) (at largest delay count : ℕ) (counted : Bool) (xs : List ℕ) {w : Ending} → w ≡ readRest counted s (rangesFrom count s at largest .walk)
+    → {tail : Tail} {used : ℕ} → w ≡ Whole tail used → {ys : List ℕ} → 2 * (count + 1) ≤ length xs → ys ≡ splice xs 0 (rangesFrom count s at largest .pairs)
+    → record { answer = Frame largest delay (count + 1) used tail; slice = ys } ≡ readRanges s at largest delay count counted xs
+unfolding readRanges
+accepted s at largest delay count counted xs e t h d =
+    yes _ _ (le-leb (2 * (count + 1)) (length xs) h) (rw d)
+    ∙ ap (λ (u : Ending). afterRest u largest delay count (rangesFrom count s at largest .pairs) xs) (sym t ∙ e)
 
 -- ---- the counts: n0, n1 and n2 are what reading them answers
 

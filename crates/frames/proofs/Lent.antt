@@ -27,14 +27,14 @@ use Rattle.frames.specs.declared.Ack.{Ack}
 use Rattle.frames.specs.declared.Ack.the-variants.{Frame, Ends as Cut, OtherType, BelowZero as Below, NoRoom}
 
 -- what holds of each answer of a chain holds of the chain
-formed-all : {R : Type 0} (P : R → Type 0) (r : Number) {x : R} {f : ℕ → ℕ → Bool → R} → P x → ((v n : ℕ) (b : Bool) → P (f v n b)) → P (formed r x f)
+pub formed-all : {R : Type 0} (P : R → Type 0) (r : Number) {x : R} {f : ℕ → ℕ → Bool → R} → P x → ((v n : ℕ) (b : Bool) → P (f v n b)) → P (formed r x f)
 formed-all P (Value v n b) p h = h v n b
 formed-all P Stops p h = p
 
-field-all : {R : Type 0} (P : R → Type 0) (r : Number) {x : R} {f : ℕ → ℕ → R} → P x → ((v n : ℕ) → P (f v n)) → P (field r x f)
+pub field-all : {R : Type 0} (P : R → Type 0) (r : Number) {x : R} {f : ℕ → ℕ → R} → P x → ((v n : ℕ) → P (f v n)) → P (field r x f)
 field-all P r p h = formed-all P r p (λ v n b. h v n)
 
-pick-all : {R : Type 0} (P : R → Type 0) (b : Bool) {x y : R} → P x → P y → P (pick b x y)
+pub pick-all : {R : Type 0} (P : R → Type 0) (b : Bool) {x y : R} → P x → P y → P (pick b x y)
 pick-all P true p q = p
 pick-all P false p q = q
 

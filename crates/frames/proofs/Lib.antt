@@ -1,11 +1,14 @@
 pub mod Types
 pub mod Ranges
+pub mod Steps
 pub mod Answers
+pub mod Check
 pub mod Back
 pub mod Shortest
 pub mod Accepted
 pub mod Rows
 pub mod Exactly
+pub mod CheckRows
 pub mod Writers
 pub mod Lent
 pub mod Only

@@ -3,17 +3,15 @@
 use Prim.Native.Nat.{ℕ, zero, suc, _+_, _-_, _≤_, _<_}
 use mathlib.Core.Path.{_≡_, refl, sym, ap, _∙_}
 use mathlib.Core.Bool.{Bool}
-use mathlib.Core.List.{List, [], _∷_, append-assoc}
-use native.Mathlib.Nat.{add-zero}
-use native.Mathlib.Numerals.{add-one}
+use mathlib.Core.List.{List, [], _∷_}
 use native.Mathlib.Omega.{arith}
 use borrow.Author.Tests.{le-leb, lt-leb}
-use lib.ListN.{length, drop, set, length-set, take-append-drop}
-use lib.Seq.{take-suc-set, drop-set-lt}
+use lib.ListN.{length, set, length-set}
 use Rattle.wire.specs.Bytes.{splice}
 use Rattle.wire.specs.Numbers.{readNumber}
 use Rattle.wire.specs.declared.Number.{Number}
 use Rattle.wire.specs.declared.Number.the-variants.{Value, Ends as Stops}
+use Rattle.wire.proofs.Bytes.{store, splice-none}
 use Rattle.wire.proofs.Reading.{stop, next, yes, no}
 use Rattle.frames.specs.Ack.{Ranges, ended, before, range, below, rangesFrom}
 use Rattle.frames.specs.declared.Walk.{Walk}
@@ -71,20 +69,10 @@ module _ (left : ℕ) (s : List ℕ) (at high : ℕ) {n : Number} (e : n ≡ rea
 
 -- ---- the stores
 
--- one store at the start of what is still to write
-store : (xs ps : List ℕ) (i j a : ℕ) → j ≡ i + 1 → i < length xs → splice (set xs i a) j ps ≡ splice xs i (a ∷ ps)
-store xs ps i j a e h =
-    let d : drop (i + 1 + length ps) (set xs i a) ≡ drop (i + 1 + length ps) xs = drop-set-lt (i + 1 + length ps) xs i a (omega arith) in
-    let n : i + 1 + length ps ≡ i + suc (length ps) = omega arith in
-    rw (e, d, n, add-one, take-suc-set xs i a h, append-assoc)
-
 -- a range's two stores
 store-range : (xs ps : List ℕ) (i a b : ℕ) → i + 2 ≤ length xs → splice (set (set xs i a) (i + 1) b) (i + 2) ps ≡ splice xs i (a ∷ b ∷ ps)
 store-range xs ps i a b h =
     store (set xs i a) ps (i + 1) (i + 2) b (omega arith) (simp length-set (omega arith)) ∙ store xs (b ∷ ps) i (i + 1) a refl (omega arith)
-
-splice-none : (xs : List ℕ) (i : ℕ) → splice xs i [] ≡ xs
-splice-none xs i = rw add-zero (take-append-drop i xs)
 
 -- ys is the whole: xs with the ranges r, which are still to write, from i on
 module _ (xs : List ℕ) (i : ℕ) {r : Ranges} {ys : List ℕ} (whole : splice xs i (r .pairs) ≡ ys) where

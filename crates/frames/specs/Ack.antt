@@ -9,12 +9,16 @@ use Rattle.wire.specs.Fields.{field}
 use Rattle.wire.specs.Numbers.{limit, readNumber}
 use Rattle.frames.specs.declared.Walk.{Walk}
 use Rattle.frames.specs.declared.Walk.the-variants.{Whole, Ends, BelowZero}
+use Rattle.frames.specs.declared.Range.{Range}
+use Rattle.frames.specs.declared.Range.the-variants.{Of, Ends as RangeEnds, BelowZero as RangeLow}
 use Rattle.frames.specs.declared.Tail.{Tail}
 use Rattle.frames.specs.declared.Tail.the-variants.{Nothing, Counts}
 use Rattle.frames.specs.declared.Ending.{Ending}
 use Rattle.frames.specs.declared.Ending.the-variants.{Whole as Ended, Ends as Stops, BelowZero as Low}
 use Rattle.frames.specs.declared.Ack.{Ack}
 use Rattle.frames.specs.declared.Ack.the-variants.{Frame, Ends as Cut, OtherType, BelowZero as Below, NoRoom}
+use Rattle.frames.specs.declared.Checked.{Checked}
+use Rattle.frames.specs.declared.Checked.the-variants.{Frame as CheckedFrame, Ends as CheckedEnds, OtherType as CheckedOther, BelowZero as CheckedLow}
 use Rattle.frames.specs.Types.{ackType, countsType, ackTypes, typed}
 
 -- ---- the ranges
@@ -32,23 +36,46 @@ ended w = record { pairs = []; walk = w }
 abbrev pub before : ℕ → ℕ → Ranges → Ranges
 before smallest largest r = record { pairs = smallest ∷ largest ∷ r .pairs; walk = r .walk }
 
--- a range by its largest and the length at at; what f makes of its smallest and the next place comes after it
-abbrev pub range : List ℕ → ℕ → ℕ → (ℕ → ℕ → Ranges) → Ranges
-range s at largest f =
-    field (readNumber s at) (ended Ends) (λ len next.
-    pick (leb len largest) (before (largest - len) largest (f (largest - len) next)) (ended BelowZero))
+-- a range's smallest, from its largest and the length at at; cut, low: what the two faults give
+abbrev pub smallestAt : {R : Type 0} → List ℕ → ℕ → ℕ → R → R → (ℕ → ℕ → R) → R
+smallestAt s at largest cut low f =
+    field (readNumber s at) cut (λ len next.
+    pick (leb len largest) (f (largest - len) next) low)
 
 -- "The next range's largest is the previous range's smallest minus gap minus 2"
+abbrev pub largestAt : {R : Type 0} → List ℕ → ℕ → ℕ → R → R → (ℕ → ℕ → R) → R
+largestAt s at smallest cut low f =
+    field (readNumber s at) cut (λ gap next.
+    pick (leb (gap + 2) smallest) (f (smallest - gap - 2) next) low)
+
+-- a range by its largest; what f makes of its smallest and the next place comes after it
+abbrev pub range : List ℕ → ℕ → ℕ → (ℕ → ℕ → Ranges) → Ranges
+range s at largest f =
+    smallestAt s at largest (ended Ends) (ended BelowZero) (λ smallest next. before smallest largest (f smallest next))
+
+-- the ranges below a range
 abbrev pub below : List ℕ → ℕ → ℕ → (ℕ → ℕ → Ranges) → Ranges
-below s at smallest f =
-    field (readNumber s at) (ended Ends) (λ gap next.
-    pick (leb (gap + 2) smallest) (f (smallest - gap - 2) next) (ended BelowZero))
+below s at smallest f = largestAt s at smallest (ended Ends) (ended BelowZero) f
 
 -- "first range, then gap and length pairs", as many as the range count says
 unfoldable pub rangesFrom : ℕ → List ℕ → ℕ → ℕ → Ranges
 rangesFrom zero s at largest = range s at largest (λ smallest next. ended (Whole next))
 rangesFrom (suc count) s at largest =
     range s at largest (λ smallest mid. below s mid smallest (λ lower next. rangesFrom count s next lower))
+
+-- one step of that walk: a range and, where some are left, the gap after it
+unfoldable pub readRange : ℕ → List ℕ → ℕ → ℕ → Range
+readRange zero s at largest = smallestAt s at largest RangeEnds RangeLow (λ smallest next. Of smallest 0 next)
+readRange (suc left) s at largest =
+    smallestAt s at largest RangeEnds RangeLow (λ smallest mid.
+    largestAt s mid smallest RangeEnds RangeLow (λ lower next.
+    Of smallest lower next))
+
+-- the walk came to its end
+abbrev pub IsWhole : Walk → Type 0
+IsWhole (Whole used) = Unit
+IsWhole Ends = ⊥
+IsWhole BelowZero = ⊥
 
 -- ---- what comes after the ranges: nothing for type 02, and "then three ECN counts" for type 03 (02, No. 2)
 
@@ -92,14 +119,42 @@ unfoldable pub readRanges : List ℕ → ℕ → ℕ → ℕ → ℕ → Bool �
 readRanges s at largest delay count counted xs =
     afterRest (readRest counted s (rangesFrom count s at largest .walk)) largest delay count (rangesFrom count s at largest .pairs) xs
 
--- "type 02, largest, delay, range count", then the ranges; type 03 has "the same fields, then three ECN counts"
+-- "type 02, largest, delay, range count"; cut, other: what the two faults give
+abbrev pub ackFields : {R : Type 0} → List ℕ → R → R → (ℕ → ℕ → ℕ → ℕ → Bool → R) → R
+ackFields s cut other f =
+    typed ackTypes s cut other (λ kind at0.
+    field (readNumber s at0) cut (λ largest at1.
+    field (readNumber s at1) cut (λ delay at2.
+    field (readNumber s at2) cut (λ count at3.
+    f at3 largest delay count (eqb kind countsType)))))
+
+-- then the ranges; type 03 has "the same fields, then three ECN counts"
 abbrev pub readAck : List ℕ → List ℕ → AckRead
 readAck s xs =
-    typed ackTypes s (refused Cut xs) (refused OtherType xs) (λ kind at0.
-    field (readNumber s at0) (refused Cut xs) (λ largest at1.
-    field (readNumber s at1) (refused Cut xs) (λ delay at2.
-    field (readNumber s at2) (refused Cut xs) (λ count at3.
-    readRanges s at3 largest delay count (eqb kind countsType) xs))))
+    ackFields s (refused Cut xs) (refused OtherType xs) (λ at largest delay count counted.
+    readRanges s at largest delay count counted xs)
+
+-- ---- the same check without a slice, for a caller who walks over the ranges itself
+
+abbrev pub checkedRest : ℕ → ℕ → ℕ → ℕ → Ending → Checked
+checkedRest at largest delay count Stops = CheckedEnds
+checkedRest at largest delay count Low = CheckedLow
+checkedRest at largest delay count (Ended tail used) = CheckedFrame largest delay at count used tail
+
+abbrev pub checkRanges : List ℕ → ℕ → ℕ → ℕ → ℕ → Bool → Checked
+checkRanges s at largest delay count counted =
+    checkedRest at largest delay count (readRest counted s (rangesFrom count s at largest .walk))
+
+abbrev pub checkAck : List ℕ → Checked
+checkAck s = ackFields s CheckedEnds CheckedOther (checkRanges s)
+
+-- the whole frame is checked, then the room is judged
+abbrev pub afterCheck : List ℕ → Checked → List ℕ → AckRead
+afterCheck s CheckedEnds xs = refused Cut xs
+afterCheck s CheckedOther xs = refused OtherType xs
+afterCheck s CheckedLow xs = refused Below xs
+afterCheck s (CheckedFrame largest delay at count used tail) xs =
+    afterRest (Ended tail used) largest delay count (rangesFrom count s at largest .pairs) xs
 
 -- ---- the numbers of a frame that says given ranges: smallest and largest of each, newest first
 

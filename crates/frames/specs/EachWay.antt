@@ -1,5 +1,5 @@
--- Each way: what a frame's writer wrote its reader reads, and an accepted frame in shortest form is what its numbers are written as.
-use Prim.Native.Nat.{ℕ, _*_, _/_, _≤_}
+-- Each way: what a frame's writer wrote its reader reads, an ACK is read as it is checked and walked over, and an accepted frame in shortest form is what its numbers are written as.
+use Prim.Native.Nat.{ℕ, _-_, _*_, _/_, _≤_, _<_}
 use mathlib.Core.Path.{_≡_}
 use mathlib.Core.List.{List}
 use lib.ListN.{length, getD, take}
@@ -8,9 +8,11 @@ use Rattle.wire.specs.Numbers.{limit, encodeAll, putAnswer, putBytes}
 use Rattle.wire.specs.declared.Put.the-variants.{Done}
 use Rattle.frames.specs.Frequency.{readFrequency, frequency}
 use Rattle.frames.specs.Immediate.{readImmediate, immediate}
-use Rattle.frames.specs.Ack.{readAck, ackNumbers, AckRanges}
+use Rattle.frames.specs.Ack.{ended, before, rangesFrom, readRange, readAck, checkAck, afterCheck, ackNumbers, AckRanges}
 use Rattle.frames.specs.declared.Frequency.the-variants.{Frame}
 use Rattle.frames.specs.declared.Immediate.the-variants.{Frame as Alone}
+use Rattle.frames.specs.declared.Walk.the-variants.{Whole, Ends, BelowZero}
+use Rattle.frames.specs.declared.Range.the-variants.{Of, Ends as RangeEnds, BelowZero as RangeLow}
 use Rattle.frames.specs.declared.Tail.{Tail}
 use Rattle.frames.specs.declared.Ack.the-variants.{Frame as Read}
 
@@ -31,6 +33,21 @@ AckWriteRead =
     (buf xs pairs : List ℕ) (tail : Tail) (delay used : ℕ) → AckRanges pairs → delay ≤ limit → length pairs ≤ length xs
     → putAnswer buf 0 (ackNumbers tail delay pairs) ≡ Done used
     → readAck (putBytes buf 0 (ackNumbers tail delay pairs)) xs ≡ record { answer = Read (getD pairs 1 0) delay (length pairs / 2) used tail; slice = splice xs 0 pairs }
+
+-- ---- checked, then read
+
+-- ACK: the check's fault is the reader's; an accepted one is read where there is room for its ranges
+abbrev pub CheckThenRoom : Type 0
+CheckThenRoom = (s xs : List ℕ) → readAck s xs ≡ afterCheck s (checkAck s) xs
+
+-- the ranges one by one: a step's range stands first, and the walk goes on where the step says, or ends there
+pub record RangeByRange (left : ℕ) (s : List ℕ) (at largest : ℕ) : Type 0 where
+  pub cut : readRange left s at largest ≡ RangeEnds → rangesFrom left s at largest .walk ≡ Ends
+  pub low : readRange left s at largest ≡ RangeLow → rangesFrom left s at largest .walk ≡ BelowZero
+  pub last : (smallest lower next : ℕ) → readRange left s at largest ≡ Of smallest lower next → left ≡ 0
+      → rangesFrom left s at largest ≡ before smallest largest (ended (Whole next))
+  pub more : (smallest lower next : ℕ) → readRange left s at largest ≡ Of smallest lower next → 0 < left
+      → rangesFrom left s at largest ≡ before smallest largest (rangesFrom (left - 1) s next lower)
 
 -- ---- read, then written
 

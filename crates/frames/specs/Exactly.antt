@@ -15,8 +15,8 @@ use Rattle.wire.specs.declared.Number.the-variants.{Value, Ends}
 use Rattle.frames.specs.Types.{frequencyType, immediateType, countsType, ackTypes}
 use Rattle.frames.specs.Frequency.{readFrequency, frequency}
 use Rattle.frames.specs.Immediate.{readImmediate, immediate}
-use Rattle.frames.specs.Ack.{readAck}
-use Rattle.frames.specs.Refusals.{frequencyRefusal, immediateRefusal, ackRefusal}
+use Rattle.frames.specs.Ack.{readAck, checkAck}
+use Rattle.frames.specs.Refusals.{frequencyRefusal, immediateRefusal, ackRefusal, checkedRefusal}
 use Rattle.frames.specs.declared.Tail.{Tail}
 use Rattle.frames.specs.declared.Ack.the-variants.{Frame}
 
@@ -117,6 +117,17 @@ pub record ReadsAck (s : List ℕ) (room refusal : ℕ) : Type 0 where
 -- ACK, with the lent slice xs
 abbrev pub AckReads : Type 0
 AckReads = (s xs : List ℕ) → ReadsAck s (length xs) (ackRefusal (readAck s xs .answer))
+
+-- checked without a slice, for a caller who walks over the ranges itself: the same rows, and no 9
+pub record ChecksAck (s : List ℕ) (refusal : ℕ) : Type 0 where
+  pub three : refusal ≡ 3 ↔ OtherType ackTypes s
+  pub two : refusal ≡ 2 ↔ Cut ackTypes s (λ kind vs. (length vs < asked kind vs) × NotBelow vs)
+  pub fourteen : refusal ≡ 14 ↔ After ackTypes s (λ kind vs next. (length vs ≤ ofRanges vs) × Below vs)
+  pub accepted : refusal ≡ 0 ↔ After ackTypes s (λ kind vs next. (length vs ≡ asked kind vs) × NotBelow vs)
+  pub others : OneOf refusal (0 ∷ 2 ∷ 3 ∷ 14 ∷ [])
+
+abbrev pub AckChecks : Type 0
+AckChecks = (s : List ℕ) → ChecksAck s (checkedRefusal (checkAck s))
 
 -- ---- the writers: "5, then 9"
 

@@ -1,14 +1,14 @@
 // ACK: read, and its ranges written to a lent slice.
 ghost use mathlib.Core.Path.{_≡_};
-ghost use Prim.Native.Nat.{_+_, _*_, _≤_};
-ghost use lib.ListN.{length};
-ghost use Rattle.wire.specs.Bytes.{splice};
 ghost use Rattle.frames.specs.Types.{isAck};
-ghost use Rattle.frames.specs.Ack.{rangesFrom, readTail, readRest, readRanges, readAck};
+ghost use Rattle.frames.specs.Ack.{rangesFrom, readTail, readRest, readAck, checkRanges, checkAck};
 use crate::Ack;
+use crate::Checked;
 use crate::Ending;
 use crate::Tail;
 use crate::Walk;
+use crate::ack_ranges::check_ranges;
+use crate::ack_ranges::fill_ranges;
 use wire::Number;
 
 // Its type, and its type with counts.
@@ -23,93 +23,6 @@ fn is_ack(kind: u64) -> bool
         return true;
     }
     kind == ACK_COUNTS
-}
-
-// Walks over a first range whose largest is given and count ranges after it, and writes nothing.
-// A turn takes two bytes or more, so the bytes and not the count bound its time.
-fn check_ranges(s: &[u8], at: usize, largest: u64, count: u64) -> Walk
-    ensures { λ r. ⌜ r ≡ rangesFrom count (now (s .entry)) at largest .walk ⌝ }
-{
-    let mut high = largest;
-    let mut place = at;
-    let mut left = count;
-    loop {
-        let Number::Value {
-            value: len,
-            next,
-            ..
-        } = wire::read_number(s, place)
-        else {
-            return Walk::Ends;
-        };
-        if high < len {
-            return Walk::BelowZero;
-        }
-        if left == 0 {
-            return Walk::Whole { used: next };
-        }
-        let low = high - len;
-        let Number::Value {
-            value: gap,
-            next: after,
-            ..
-        } = wire::read_number(s, next)
-        else {
-            return Walk::Ends;
-        };
-        if low < gap + 2 {
-            return Walk::BelowZero;
-        }
-        high = low - gap - 2;
-        place = after;
-        left -= 1;
-    }
-}
-
-// Writes the ranges that check_ranges walks over, smallest before largest, newest range first.
-// Faults are found by check_ranges; here they only end the loop.
-fn fill_ranges(ranges: &mut [u64], s: &[u8], at: usize, first: u64, count: u64)
-    requires { ⌜ 2 * (count + 1) ≤ length (now ranges) ⌝ }
-    ensures { λ r. ⌜ now (ranges .exit) ≡ splice (now (ranges .entry)) 0 (rangesFrom count (now (s .entry)) at first .pairs) ⌝ }
-{
-    let mut largest = first;
-    let mut place = at;
-    let mut left = count;
-    let mut i: usize = 0;
-    loop {
-        let Number::Value {
-            value: len,
-            next,
-            ..
-        } = wire::read_number(s, place)
-        else {
-            return;
-        };
-        if largest < len {
-            return;
-        }
-        let smallest = largest - len;
-        ranges[i] = smallest;
-        ranges[i + 1] = largest;
-        if left == 0 {
-            return;
-        }
-        let Number::Value {
-            value: gap,
-            next: after,
-            ..
-        } = wire::read_number(s, next)
-        else {
-            return;
-        };
-        if smallest < gap + 2 {
-            return;
-        }
-        largest = smallest - gap - 2;
-        place = after;
-        left -= 1;
-        i += 2;
-    }
 }
 
 // Reads what comes after the ranges: the three counts, or nothing.
@@ -164,23 +77,95 @@ fn check_rest(s: &[u8], at: usize, largest: u64, count: u64, counted: bool) -> E
     }
 }
 
-// Reads the ranges of an ACK frame: the whole frame is checked (2, 14) before the room is judged (9).
-fn read_ranges(
+// What the ranges and what comes after them make of a frame's numbers.
+fn check_numbers(
     s: &[u8],
     at: usize,
     largest: u64,
     delay: u64,
     count: u64,
     counted: bool,
-    ranges: &mut [u64],
-) -> Ack
-    ensures { λ r. ⌜ (r ≡ readRanges (now (s .entry)) at largest delay count counted (now (ranges .entry)) .answer) × (now (ranges .exit) ≡ readRanges (now (s .entry)) at largest delay count counted (now (ranges .entry)) .slice) ⌝ }
+) -> Checked
+    ensures { λ r. ⌜ r ≡ checkRanges (now (s .entry)) at largest delay count counted ⌝ }
 {
     let ending = check_rest(s, at, largest, count, counted);
     match ending {
-        Ending::Ends => Ack::Ends,
-        Ending::BelowZero => Ack::BelowZero,
-        Ending::Whole { tail, used } => {
+        Ending::Ends => Checked::Ends,
+        Ending::BelowZero => Checked::BelowZero,
+        Ending::Whole { tail, used } => Checked::Frame {
+            largest,
+            delay,
+            at,
+            count,
+            used,
+            tail,
+        },
+    }
+}
+
+// Checks the ACK frame that s starts with (2, 3, 14), and writes nothing.
+// Its ranges are then read one by one, by read_range from at on.
+pub fn check_ack(s: &[u8]) -> Checked
+    ensures { λ r. ⌜ r ≡ checkAck (now (s .entry)) ⌝ }
+{
+    let Number::Value {
+        value: kind,
+        next: at0,
+        shortest,
+    } = wire::read_number(s, 0)
+    else {
+        return Checked::Ends;
+    };
+    if !is_ack(kind) {
+        return Checked::OtherType;
+    }
+    if !shortest {
+        return Checked::OtherType;
+    }
+    let Number::Value {
+        value: largest,
+        next: at1,
+        ..
+    } = wire::read_number(s, at0)
+    else {
+        return Checked::Ends;
+    };
+    let Number::Value {
+        value: delay,
+        next: at2,
+        ..
+    } = wire::read_number(s, at1)
+    else {
+        return Checked::Ends;
+    };
+    let Number::Value {
+        value: count,
+        next: at3,
+        ..
+    } = wire::read_number(s, at2)
+    else {
+        return Checked::Ends;
+    };
+    check_numbers(s, at3, largest, delay, count, kind == ACK_COUNTS)
+}
+
+// Reads the ACK frame that s starts with, and writes its ranges to the lent slice: the whole frame is checked before the room is judged (9).
+pub fn read_ack(s: &[u8], ranges: &mut [u64]) -> Ack
+    ensures { λ r. ⌜ (r ≡ readAck (now (s .entry)) (now (ranges .entry)) .answer) × (now (ranges .exit) ≡ readAck (now (s .entry)) (now (ranges .entry)) .slice) ⌝ }
+{
+    let checked = check_ack(s);
+    match checked {
+        Checked::Ends => Ack::Ends,
+        Checked::OtherType => Ack::OtherType,
+        Checked::BelowZero => Ack::BelowZero,
+        Checked::Frame {
+            largest,
+            delay,
+            at,
+            count,
+            used,
+            tail,
+        } => {
             // The room is halved, since a count near 2^62 is not to be doubled.
             let pairs = (ranges.len() / 2) as u64;
             if pairs <= count {
@@ -196,49 +181,4 @@ fn read_ranges(
             }
         }
     }
-}
-
-// Reads the ACK frame that s starts with, and writes its ranges to the lent slice.
-pub fn read_ack(s: &[u8], ranges: &mut [u64]) -> Ack
-    ensures { λ r. ⌜ (r ≡ readAck (now (s .entry)) (now (ranges .entry)) .answer) × (now (ranges .exit) ≡ readAck (now (s .entry)) (now (ranges .entry)) .slice) ⌝ }
-{
-    let Number::Value {
-        value: kind,
-        next: at0,
-        shortest,
-    } = wire::read_number(s, 0)
-    else {
-        return Ack::Ends;
-    };
-    if !is_ack(kind) {
-        return Ack::OtherType;
-    }
-    if !shortest {
-        return Ack::OtherType;
-    }
-    let Number::Value {
-        value: largest,
-        next: at1,
-        ..
-    } = wire::read_number(s, at0)
-    else {
-        return Ack::Ends;
-    };
-    let Number::Value {
-        value: delay,
-        next: at2,
-        ..
-    } = wire::read_number(s, at1)
-    else {
-        return Ack::Ends;
-    };
-    let Number::Value {
-        value: count,
-        next: at3,
-        ..
-    } = wire::read_number(s, at2)
-    else {
-        return Ack::Ends;
-    };
-    read_ranges(s, at3, largest, delay, count, kind == ACK_COUNTS, ranges)
 }

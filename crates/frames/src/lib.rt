@@ -2,13 +2,16 @@
 // Carries "Three frames" of document 01 (004; RFC 9000 section 19.3), and ACK with counts (02, No. 2).
 // Every public function takes any bytes and any numbers, and refuses by the paper's table.
 ghost use mathlib.Core.Path.{_≡_};
-ghost use Rattle.frames.specs.Refusals.{frequencyRefusal, immediateRefusal, ackRefusal};
+ghost use Rattle.frames.specs.Refusals.{frequencyRefusal, immediateRefusal, ackRefusal, checkedRefusal};
 
 mod ack_frame;
+mod ack_ranges;
 mod frequency_frame;
 mod immediate_frame;
 
+pub use ack_frame::check_ack;
 pub use ack_frame::read_ack;
+pub use ack_ranges::read_range;
 pub use frequency_frame::put_frequency;
 pub use frequency_frame::read_frequency;
 pub use immediate_frame::put_immediate;
@@ -53,6 +56,32 @@ pub enum Ack {
     OtherType,
     BelowZero,
     NoRoom,
+}
+
+// What checking ACK finds, with nothing written: its numbers, where its ranges stand and how many come after the first, the length used and what came after the ranges, or the refusal.
+pub enum Checked {
+    Frame {
+        largest: u64,
+        delay: u64,
+        at: usize,
+        count: u64,
+        used: usize,
+        tail: Tail,
+    },
+    Ends,
+    OtherType,
+    BelowZero,
+}
+
+// One step over a frame's ranges: a range's smallest, then, where some are left, the largest of the one below it and where its length stands; after the last 0 and the place after it.
+pub enum Range {
+    Of {
+        smallest: u64,
+        below: u64,
+        next: usize,
+    },
+    Ends,
+    BelowZero,
 }
 
 // How a walk over a frame's ranges ends: at the place after them, or by their first fault.
@@ -118,6 +147,27 @@ impl Ack {
             Ack::OtherType => 3,
             Ack::BelowZero => 14,
             Ack::NoRoom => 9,
+        }
+    }
+}
+
+impl Checked {
+    // The paper's number for the answer, 0 for accepted.
+    pub fn refusal(self) -> u64
+        ensures { λ r. ⌜ r ≡ checkedRefusal self ⌝ }
+    {
+        match self {
+            Checked::Frame {
+                largest: _,
+                delay: _,
+                at: _,
+                count: _,
+                used: _,
+                tail: _,
+            } => 0,
+            Checked::Ends => 2,
+            Checked::OtherType => 3,
+            Checked::BelowZero => 14,
         }
     }
 }

@@ -15,7 +15,7 @@ use Rattle.window.proofs.Bits.{bit-zero, bit-suc, bit-add, bit-not, bit
 -- ---- from below: trailing zeros
 
 -- the bits below the count are clear
-below-zeros : (n x q : ℕ) → q < trailingZeros n x → bit x q ≡ 0
+pub below-zeros : (n x q : ℕ) → q < trailingZeros n x → bit x q ≡ 0
 unfolding trailingZeros
 below-zeros zero x q h = absurd (not-suc-le-zero h)
 below-zeros (suc n) x q h = go (below-zeros n (x / 2)) (x % 2) refl q h
@@ -26,7 +26,7 @@ below-zeros (suc n) x q h = go (below-zeros n (x / 2)) (x % 2) refl q h
     go rest (suc d) e q l = absurd (not-suc-le-zero l)
 
 -- the bit at the count is set, where the count is not the width
-at-zeros : (n x : ℕ) → trailingZeros n x < n → bit x (trailingZeros n x) ≡ 1
+pub at-zeros : (n x : ℕ) → trailingZeros n x < n → bit x (trailingZeros n x) ≡ 1
 unfolding trailingZeros
 at-zeros zero x h = absurd (not-suc-le-zero h)
 at-zeros (suc n) x h = go (at-zeros n (x / 2)) (x % 2) refl h

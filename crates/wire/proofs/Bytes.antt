@@ -10,8 +10,8 @@ use lib.Dec.{lit<}
 use mir.Syntax.{w8}
 use mir.Val.{Fits}
 use lib.Arith.{mod-mul}
-use lib.ListN.{length, getD, take, drop, length-take, length-append}
-use lib.Seq.{drop-drop, drop-at, take-at, getD-drop}
+use lib.ListN.{length, getD, take, drop, set, length-take, length-append, take-append-drop}
+use lib.Seq.{drop-drop, drop-at, take-at, getD-drop, take-suc-set, drop-set-lt}
 use Rattle.wire.specs.Bytes.{be, digits, splice}
 pub use Rattle.wire.specs.Bytes.{Octets}
 
@@ -64,6 +64,16 @@ splice-splice xs ys zs at h =
     let n : length (take at xs ++ ys) ≡ at + length ys = simp (length-append, length-take) (omega arith) in
     rw (← append-assoc (take at xs) ys d, take-at (take at xs ++ ys) d (at + length ys) n, ← drop-drop (length zs) (at + length ys) ((take at xs ++ ys) ++ d), drop-at (take at xs ++ ys) d (at + length ys) n, drop-drop, length-append)
     (simp (append-assoc, add-assoc))
+
+-- one store at the start of what is still to write
+pub store : (xs ps : List ℕ) (i j a : ℕ) → j ≡ i + 1 → i < length xs → splice (set xs i a) j ps ≡ splice xs i (a ∷ ps)
+store xs ps i j a e h =
+    let d : drop (i + 1 + length ps) (set xs i a) ≡ drop (i + 1 + length ps) xs = drop-set-lt (i + 1 + length ps) xs i a (omega arith) in
+    let n : i + 1 + length ps ≡ i + suc (length ps) = omega arith in
+    rw (e, d, n, add-one, take-suc-set xs i a h, append-assoc)
+
+pub splice-none : (xs : List ℕ) (i : ℕ) → splice xs i [] ≡ xs
+splice-none xs i = rw add-zero (take-append-drop i xs)
 
 -- ---- bytes are the digits of their number
 

@@ -1,149 +1,70 @@
--- `frames::ack_frame::read_ack` meets its contract: one step of the definition for each field and each test, then the law of its ranges.
+-- `frames::ack_frame::read_ack` meets its contract: one law for each answer of the check, and the room as a halved length.
 -- Assumes nothing.
-use mathlib.Core.Path.{sym, _∙_}
-use Rattle.wire.proofs.Reading.{stop, next}
-use Rattle.frames.specs.Types.{ackTypes}
-use Rattle.frames.specs.Ack.{readRanges}
-use Rattle.frames.proofs.Types.{type-cut, type-other, type-longer, type-right}
-use Rattle.frames.proofs.Answers.{both, joined}
 use borrow.Author.Needs.{needs}
-use borrow.Author.Tests.{not-true, not-false}
 use native.Mathlib.Omega.{arith}
+use Rattle.frames.proofs.Answers.{both}
+use Rattle.frames.proofs.Check.{read-so, no-room, accepted}
 use Rattle.frames.proofs.ack_frame.read_ack.Statement.{statement}
 use Rattle.frames.proofs.ack_frame.read_ack.Tie as tie
 
-read-number-requires : tie.Need-read-number-requires
-read-number-requires c κs = search needs
-
-enum-known-kind : tie.Need-enum-known-kind
-enum-known-kind c = search needs
+check-ack-requires : tie.Need-check-ack-requires
+check-ack-requires c κs = search needs
 
 enum-told : tie.Need-enum-told
 enum-told c = search needs
 
-is-ack-requires : tie.Need-is-ack-requires
-is-ack-requires c κs = search needs
-
-returns : tie.Need-returns
-returns c = both (type-cut ackTypes _ _ _ _ (c .before .before .read-number .ensures) (c .enum-told .given .1))
-
-returns-2 : tie.Need-returns-2
-returns-2 c =
-    let i = c .before in
-    let k = i .before .before in
-    both (type-other ackTypes _ _ _ _ (k .before .before .read-number .ensures) (k .kind .given .1) (sym (i .is-ack .ensures) ∙ not-true _ (c .if1 .taken)))
-
-returns-3 : tie.Need-returns-3
-returns-3 c =
-    let i = c .before .before in
-    let k = i .before .before in
-    both (type-longer ackTypes _ _ _ _ (k .before .before .read-number .ensures) (k .kind .given .1) (sym (i .is-ack .ensures) ∙ not-false _ (c .before .if1 .left)) (not-true _ (c .if2 .taken)))
-
-read-number-requires-2 : tie.Need-read-number-requires-2
-read-number-requires-2 c κs = search needs
-
-enum-known-largest : tie.Need-enum-known-largest
-enum-known-largest c = search needs
-
 enum-told-2 : tie.Need-enum-told-2
 enum-told-2 c = search needs
-
-returns-4 : tie.Need-returns-4
-returns-4 c =
-    let t = c .before .before .before in
-    let i = t .before .before in
-    let k = i .before .before in
-    both
-    (type-right ackTypes _ _ _ _ (k .before .before .read-number .ensures) (k .kind .given .1) (sym (i .is-ack .ensures) ∙ not-false _ (t .before .if1 .left)) (not-false _ (t .if2 .left))
-    (stop _ _ (c .enum-told2 .given .1) (c .before .before .read-number2 .ensures)))
-
-read-number-requires-3 : tie.Need-read-number-requires-3
-read-number-requires-3 c κs = search needs
-
-enum-known-delay : tie.Need-enum-known-delay
-enum-known-delay c = search needs
 
 enum-told-3 : tie.Need-enum-told-3
 enum-told-3 c = search needs
 
-returns-5 : tie.Need-returns-5
-returns-5 c =
-    let k1 = c .before .before .before .before in
-    let t = k1 .before .before .before in
-    let i = t .before .before in
-    let k = i .before .before in
-    both
-    (type-right ackTypes _ _ _ _ (k .before .before .read-number .ensures) (k .kind .given .1) (sym (i .is-ack .ensures) ∙ not-false _ (t .before .if1 .left)) (not-false _ (t .if2 .left))
-    (next _ _ (k1 .largest .given .1) (k1 .before .before .read-number2 .ensures)
-    (stop _ _ (c .enum-told3 .given .1) (c .before .before .read-number3 .ensures))))
+enum-known-checked : tie.Need-enum-known-checked
+enum-known-checked c = search needs
 
-read-number-requires-4 : tie.Need-read-number-requires-4
-read-number-requires-4 c κs = search needs
+returns : tie.Need-returns
+returns c =
+    let k = c .before .before in
+    both (no-room _ _ (k .before .before .check-ack .ensures) (k .checked .given .1) (omega arith))
 
-enum-known-count : tie.Need-enum-known-count
-enum-known-count c = search needs
+fill-ranges-requires : tie.Need-fill-ranges-requires
+fill-ranges-requires c κs = omega arith
 
-enum-told-4 : tie.Need-enum-told-4
-enum-told-4 c = search needs
+add-t18 : tie.Need-add-t18
+add-t18 c = search needs
 
-returns-6 : tie.Need-returns-6
-returns-6 c =
-    let k2 = c .before .before .before .before in
-    let k1 = k2 .before .before .before .before in
-    let t = k1 .before .before .before in
-    let i = t .before .before in
-    let k = i .before .before in
-    both
-    (type-right ackTypes _ _ _ _ (k .before .before .read-number .ensures) (k .kind .given .1) (sym (i .is-ack .ensures) ∙ not-false _ (t .before .if1 .left)) (not-false _ (t .if2 .left))
-    (next _ _ (k1 .largest .given .1) (k1 .before .before .read-number2 .ensures)
-    (next _ _ (k2 .delay .given .1) (k2 .before .before .read-number3 .ensures)
-    (stop _ _ (c .enum-told4 .given .1) (c .before .before .read-number4 .ensures)))))
+returns-2 : tie.Need-returns-2
+returns-2 c = both (read-so _ _ (c .before .before .check-ack .ensures) _ (c .enum-told .given .1))
 
-read-ranges-requires : tie.Need-read-ranges-requires
-read-ranges-requires c κs = search needs
+returns-3 : tie.Need-returns-3
+returns-3 c = both (read-so _ _ (c .before .before .check-ack .ensures) _ (c .enum-told2 .given .1))
+
+returns-4 : tie.Need-returns-4
+returns-4 c = both (read-so _ _ (c .before .before .check-ack .ensures) _ (c .enum-told3 .given .1))
 
 same-length : tie.Need-same-length
 same-length c = search needs
 
-returns-7 : tie.Need-returns-7
-returns-7 c =
-    let r = c .before .before in
-    let k3 = r .before .before .before in
-    let k2 = k3 .before .before .before .before in
-    let k1 = k2 .before .before .before .before in
-    let t = k1 .before .before .before in
-    let i = t .before .before in
-    let k = i .before .before in
-    both
-    (type-right ackTypes _ _ _ _ (k .before .before .read-number .ensures) (k .kind .given .1) (sym (i .is-ack .ensures) ∙ not-false _ (t .before .if1 .left)) (not-false _ (t .if2 .left))
-    (next _ _ (k1 .largest .given .1) (k1 .before .before .read-number2 .ensures)
-    (next _ _ (k2 .delay .given .1) (k2 .before .before .read-number3 .ensures)
-    (next _ _ (k3 .count .given .1) (k3 .before .before .read-number4 .ensures)
-    (joined {x = readRanges _ _ _ _ _ _ _} (r .read-ranges .ensures .0) (r .read-ranges .ensures .1))))))
+returns-5 : tie.Need-returns-5
+returns-5 c =
+    let f = c .before .before in
+    let k = f .before .before .before .before in
+    both (accepted _ _ (k .before .before .check-ack .ensures) (k .checked .given .1) (omega arith) (f .fill-ranges .ensures))
 
 pub read-ack-spec : {M : Type 1} → statement M
 read-ack-spec =
     tie.close
     (tie.spec
-    read-number-requires
-    enum-known-kind
+    check-ack-requires
     enum-told
+    enum-told-2
+    enum-told-3
+    enum-known-checked
     returns
-    is-ack-requires
+    fill-ranges-requires
+    add-t18
     returns-2
     returns-3
-    read-number-requires-2
-    enum-known-largest
-    enum-told-2
     returns-4
-    read-number-requires-3
-    enum-known-delay
-    enum-told-3
-    returns-5
-    read-number-requires-4
-    enum-known-count
-    enum-told-4
-    returns-6
-    read-ranges-requires
     same-length
-    returns-7)
+    returns-5)

@@ -1,4 +1,4 @@
--- `frames::ack_frame::check_ranges` meets its contract. The loop's invariant: the walk from here ends as the walk from the start does.
+-- `frames::ack_ranges::check_ranges` meets its contract. The loop's invariant: the walk from here ends as the walk from the start does.
 -- Assumes nothing.
 use mathlib.Core.Path.{_≡_, refl, sym, ap, _∙_}
 use borrow.Author.Needs.{needs}
@@ -7,8 +7,8 @@ use Rattle.frames.specs.Ack.{Ranges, rangesFrom}
 use Rattle.frames.specs.declared.Walk.{Walk}
 use Rattle.frames.proofs.Ranges.{some, length-cut, length-low, last, gap-cut, gap-low, more}
 use Rattle.wire.proofs.Accepted.{accepted-small}
-use Rattle.frames.proofs.ack_frame.check_ranges.Statement.{statement}
-use Rattle.frames.proofs.ack_frame.check_ranges.Tie as tie
+use Rattle.frames.proofs.ack_ranges.check_ranges.Statement.{statement}
+use Rattle.frames.proofs.ack_ranges.check_ranges.Tie as tie
 
 abbrev Inv-loop : tie.InvT-loop
 Inv-loop s at largest count high₀ place₀ left₀ high place left =

@@ -1,4 +1,4 @@
--- `frames::ack_frame::fill_ranges` meets its contract. The loop's invariant: what is written, with the ranges still to write after it, is the whole.
+-- `frames::ack_ranges::fill_ranges` meets its contract. The loop's invariant: what is written, with the ranges still to write after it, is the whole.
 -- Assumes nothing.
 use Prim.Native.Nat.{_+_, _*_, _≤_}
 use mathlib.Core.Path.{_≡_, sym, _∙_}
@@ -9,8 +9,8 @@ use Rattle.wire.specs.Bytes.{splice}
 use Rattle.frames.specs.Ack.{rangesFrom}
 use Rattle.frames.proofs.Ranges.{some, length-cut, length-low, last, gap-cut, gap-low, more, wrote-none, wrote-range, wrote-last}
 use Rattle.wire.proofs.Accepted.{accepted-small}
-use Rattle.frames.proofs.ack_frame.fill_ranges.Statement.{statement}
-use Rattle.frames.proofs.ack_frame.fill_ranges.Tie as tie
+use Rattle.frames.proofs.ack_ranges.fill_ranges.Statement.{statement}
+use Rattle.frames.proofs.ack_ranges.fill_ranges.Tie as tie
 
 abbrev Inv-loop : tie.InvT-loop
 Inv-loop ranges₀ s at first count largest₀ place₀ left₀ i₀ ranges largest place left i =

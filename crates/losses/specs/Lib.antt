@@ -1,0 +1,4 @@
+pub mod Sequence
+pub mod Told
+pub mod Kept
+pub mod Answers

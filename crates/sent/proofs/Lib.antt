@@ -1,0 +1,11 @@
+pub mod Agree
+pub mod Numbers
+pub mod Sends
+pub mod Marking
+pub mod Words
+pub mod Records
+pub mod Hears
+pub mod Sound
+pub mod Exactly
+pub mod Stays
+pub mod Only
