@@ -4,7 +4,7 @@
 CFLAGS = -std=c11 -Wall -Wextra -Wpedantic -Werror -O2 -Iinclude
 # The archive as hosts link it, and the crates whose archives are joined in it.
 ARCHIVE = target/lib/liblumbixet.a
-EXPORTS = host host_codec host_report host_entry host_writer host_newest host_tracker host_totals host_sent lent
+EXPORTS = host host_codec host_report host_entry host_writer host_newest host_pieces host_tracker host_totals host_sent lent
 SOURCES = crates.txt $(shell find crates -name '*.rt' -o -name '*.antt')
 PAPER = target/paper/paper
 # The command of the technical desk.
@@ -111,9 +111,11 @@ host: archive
 	@target/host/check-totals
 	@$(CC) $(CFLAGS) tools/check-sent.c $(ARCHIVE) -o target/host/check-sent
 	@target/host/check-sent
+	@$(CC) $(CFLAGS) tools/check-pieces.c $(ARCHIVE) -o target/host/check-pieces
+	@target/host/check-pieces
 	@if command -v $(CXX) >/dev/null; then \
-	    printf '#include "lumbixet_lent.h"\n#include "lumbixet.h"\n#include "lumbixet_tracker.h"\n#include "lumbixet_totals.h"\n#include "lumbixet_sent.h"\n' | $(CXX) -std=c++11 -Wall -Wextra -Wpedantic -Werror -Iinclude -fsyntax-only -x c++ -; fi
-	@set -e; for page in DRIVING TRACKING SENDING; do \
+	    printf '#include "lumbixet_lent.h"\n#include "lumbixet.h"\n#include "lumbixet_tracker.h"\n#include "lumbixet_totals.h"\n#include "lumbixet_sent.h"\n#include "lumbixet_pieces.h"\n' | $(CXX) -std=c++11 -Wall -Wextra -Wpedantic -Werror -Iinclude -fsyntax-only -x c++ -; fi
+	@set -e; for page in DRIVING TRACKING SENDING UNCUT; do \
 	    sed -n '/^```c$$/,/^```$$/p' docs/$$page.md | sed '/^```/d' | \
 	        $(CC) $(CFLAGS) -Wno-unused-function -include tools/driving.h -fsyntax-only -x c -; \
 	done
@@ -130,6 +132,9 @@ host: archive
 	@sed '/^$$/,$$d' examples/capture.expected >target/host/capture.table
 	@sed -n '/^```table$$/,/^```$$/p' README.md | sed '/^```/d' | diff target/host/capture.table -
 	@echo 'capture: it printed what examples/capture.expected says, and README.md has its first table'
+	@$(CC) $(CFLAGS) examples/uncut.c $(ARCHIVE) -o target/host/uncut
+	@target/host/uncut | diff examples/uncut.expected -
+	@echo 'uncut: it printed what examples/uncut.expected says'
 	@$(CC) $(CFLAGS) examples/relay.c $(ARCHIVE) -o target/host/relay
 	@target/host/relay >target/host/relay.out
 	@sed '/^Nanoseconds/,$$d' target/host/relay.out | diff examples/relay.expected -
@@ -148,7 +153,7 @@ rust: archive
 	@mkdir -p target/rust
 	@$(RUSTC) -O --crate-type rlib --crate-name lumbixet -o target/rust/liblumbixet.rlib bindings/rust/src/lib.rs
 	@$(RUSTC) --crate-type rlib --crate-name lumbixet --cfg 'feature="std"' -o target/rust/with-std.rlib bindings/rust/src/lib.rs
-	@set -e; for test in room edges objects rooms profiles week sending; do \
+	@set -e; for test in room edges objects rooms profiles pieces week sending; do \
 	    $(RUSTC) --test --extern lumbixet=target/rust/liblumbixet.rlib -o target/rust/$$test bindings/rust/tests/$$test.rs; \
 	    target/rust/$$test -q; \
 	done

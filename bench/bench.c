@@ -65,6 +65,12 @@ static const struct row rows[] = {
     {"report of profile 2, 200 entries read", read_reports, LONG_GROUPS},
     {"report of profile 2, 50 entries written", write_reports, OLD_GROUPS},
     {"report of profile 2, 200 entries written", write_reports, LONG_GROUPS},
+    {"report of 50 entries in one part", read_in_parts, IN_PARTS(LUMBIXET_PROFILE_1, 0)},
+    {"report of 50 entries in parts of 64 bytes", read_in_parts, IN_PARTS(LUMBIXET_PROFILE_1, 1)},
+    {"report of 50 entries in parts of 1 byte", read_in_parts, IN_PARTS(LUMBIXET_PROFILE_1, 2)},
+    {"report of profile 2, 50 entries, in one part", read_in_parts, IN_PARTS(LUMBIXET_PROFILE_2, 0)},
+    {"report of profile 2, in parts of 64 bytes", read_in_parts, IN_PARTS(LUMBIXET_PROFILE_2, 1)},
+    {"report of profile 2, in parts of 1 byte", read_in_parts, IN_PARTS(LUMBIXET_PROFILE_2, 2)},
     {"newest lost of 200 entries, the last one", find_newest_lost, LAST_LOST},
     {"newest lost of 200 entries, in the middle", find_newest_lost, MIDDLE_LOST},
     {"newest lost of 200 entries, none", find_newest_lost, NONE_LOST},
@@ -172,6 +178,14 @@ static void print_ranges(void)
     printf(".\n");
 }
 
+/* What a report that comes in one part costs beside the same report read whole. */
+static void print_in_one_part(int profile, int whole)
+{
+    double part = best_of(read_in_parts, IN_PARTS(profile, 0));
+    printf("Profile %d: in one part, its entries copied out, a report of 50 takes the archive %.2f times what reading it whole takes.\n",
+           profile, part / best_of(read_reports, whole));
+}
+
 /* The processor's own name, as the system tells it. */
 static void print_machine(void)
 {
@@ -200,6 +214,7 @@ int main(void)
     compare_reports();
     compare_trackers();
     compare_sent();
+    compare_pieces();
     printf("Compared before timing: %" PRIu64 " answers, all the same on both sides.\n\n", compared());
     measure_clock();
     print_machine();
@@ -213,5 +228,7 @@ int main(void)
     print_ranges();
     print_entries(LUMBIXET_PROFILE_1, OLD_LIST, LONG_LIST);
     print_entries(LUMBIXET_PROFILE_2, OLD_GROUPS, LONG_GROUPS);
+    print_in_one_part(LUMBIXET_PROFILE_1, OLD_LIST);
+    print_in_one_part(LUMBIXET_PROFILE_2, OLD_GROUPS);
     return 0;
 }

@@ -10,5 +10,6 @@ void compare_receiver(void);
 void compare_reports(void);
 void compare_trackers(void);
 void compare_sent(void);
+void compare_pieces(void);
 
 #endif

@@ -2,6 +2,7 @@
 #ifndef PLAIN_H
 #define PLAIN_H
 
+#include "lumbixet_pieces.h"
 #include "lumbixet_sent.h"
 #include "lumbixet_tracker.h"
 
@@ -46,5 +47,9 @@ void plain_losses_open(lumbixet_losses *losses);
 lumbixet_sent plain_losses_send(lumbixet_losses *losses);
 lumbixet_heard plain_losses_heard(lumbixet_losses *losses, const uint8_t *frame, size_t length, uint64_t *acknowledged,
                                   size_t acknowledged_length, uint64_t *lost, size_t lost_length);
+uint64_t plain_pieces_open(lumbixet_pieces *pieces, uint64_t profile);
+lumbixet_pieces_taken plain_pieces_take(lumbixet_pieces *pieces, const uint8_t *part, size_t length, uint8_t *buffer,
+                                        size_t room);
+lumbixet_report plain_pieces_end(lumbixet_pieces *pieces);
 
 #endif

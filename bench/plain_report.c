@@ -1,38 +1,7 @@
 /* The feedback report by hand from documents 01 and 02: the same answers and refusals as the archive, and no proof. */
-#include "plain_numbers.h"
+#include "plain_entries.h"
 
-#define MOST_ENTRIES 200
 #define MOST_GIVEN 256
-
-static inline bool known_profile(uint64_t profile)
-{
-    return profile == LUMBIXET_PROFILE_1 || profile == LUMBIXET_PROFILE_2;
-}
-
-/* Bytes of a record, of which those of profile 2 begin with the group. */
-static inline size_t record_size(uint64_t profile)
-{
-    return profile == LUMBIXET_PROFILE_2 ? 24 : 16;
-}
-
-static inline uint64_t most_metrics(uint64_t profile)
-{
-    return profile == LUMBIXET_PROFILE_2 ? 8 : 4;
-}
-
-static inline bool good_type(uint64_t profile, uint64_t kind)
-{
-    if (profile == LUMBIXET_PROFILE_2)
-        return kind % 2 == 0;
-    return kind == 0x02 || kind == 0x04 || kind == 0x10 || kind == 0x12;
-}
-
-static inline bool entry_good(const uint8_t *record)
-{
-    if (load8(record) > LARGEST || record[8] > LUMBIXET_PARTIAL || record[9] || record[10] || record[11])
-        return false;
-    return record[8] != LUMBIXET_NOT_RECEIVED || load4(record + 12) == 0;
-}
 
 /* Whether every record obeys its rule and the object numbers rise strictly. */
 static bool objects_good(const uint8_t *records, size_t count)
@@ -88,7 +57,7 @@ static uint64_t take_header(uint64_t profile, struct reader *reader, lumbixet_he
         return LUMBIXET_SUM;
     if ((fault = take_shortest(reader, &average)) || (fault = take_shortest(reader, &h->metrics)))
         return fault;
-    h->average = average % 2 ? -(int64_t)(average / 2) - 1 : (int64_t)(average / 2);
+    h->average = average_of(average);
     if (h->metrics > most_metrics(profile))
         return LUMBIXET_COUNT_OR_TYPE;
     for (uint64_t i = 0; i < h->metrics; i++) {

@@ -26,6 +26,11 @@ double send_numbers(const struct side *side, int kind, int round);
 double hear_acks(const struct side *side, int kind, int round);
 double hear_stream(const struct side *side, int kind, int round);
 
+/* A report of 50 entries in parts of 1,200, 64 or 1 bytes; see IN_PARTS. */
+enum { PART_LENGTHS = 3 };
+#define IN_PARTS(profile, which) (PART_LENGTHS * ((profile) - 1) + (which))
+double read_in_parts(const struct side *side, int kind, int round);
+
 /* On a lent record; and on those of ROOMS rooms in turn, for kind R = 1 (0) or R = 3 (1). */
 enum { ROOMS = 2000 };
 double take_packets_lent(const struct side *side, int kind, int round);

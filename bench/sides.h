@@ -2,6 +2,7 @@
 #ifndef SIDES_H
 #define SIDES_H
 
+#include "lumbixet_pieces.h"
 #include "lumbixet_sent.h"
 #include "lumbixet_tracker.h"
 
@@ -35,6 +36,9 @@ struct side {
     void (*losses_open)(lumbixet_losses *);
     lumbixet_sent (*losses_send)(lumbixet_losses *);
     lumbixet_heard (*losses_heard)(lumbixet_losses *, const uint8_t *, size_t, uint64_t *, size_t, uint64_t *, size_t);
+    uint64_t (*pieces_open)(lumbixet_pieces *, uint64_t);
+    lumbixet_pieces_taken (*pieces_take)(lumbixet_pieces *, const uint8_t *, size_t, uint8_t *, size_t);
+    lumbixet_report (*pieces_end)(lumbixet_pieces *);
 };
 
 extern const struct side archive;

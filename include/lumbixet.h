@@ -2,8 +2,9 @@
  *
  * Every call takes any bytes and any numbers, ends, and keeps nothing between calls. `result` is 0 for
  * accepted, or the refusal number of document 01 (LUMBIXET_..., below). A refused call hands the record
- * back as it came, or leaves a lent one as it was, and writes no element of a lent buffer. What else it answers
- * is then 0; the one call without a result, lumbixet_find_entries, says itself what it answers of a refused report.
+ * back as it came, or leaves a lent one as it was, and writes no element of a lent buffer; lumbixet_pieces.h says where a
+ * report in pieces differs. What else it answers is then 0; the one call without a result, lumbixet_find_entries, says itself what it
+ * answers of a refused report.
  *
  * A pointer with its length names that many elements, all readable, and writable where the pointer is not
  * const; with length 0 the pointer must still not be NULL. Two lent parts of one call must not overlap.
@@ -22,7 +23,8 @@
  * earlier version is opened anew. 0.4 brought lumbixet_lent.h. 0.5 brought reports of 200 entries:
  * lumbixet_write_report takes the most that it may write. 0.6 brought profile 2 of the report: the calls of
  * lumbixet_report.h take the profile first, lumbixet_header holds 8 metrics, and lumbixet_entry has the group. 0.7 brought
- * lumbixet_totals.h. 0.8 brought lumbixet_newest_lost. 0.9 brought lumbixet_sent.h. Numbers keep their meaning.
+ * lumbixet_totals.h. 0.8 brought lumbixet_newest_lost. 0.9 brought lumbixet_sent.h, 0.10 lumbixet_pieces.h. Numbers keep
+ * their meaning.
  */
 #ifndef LUMBIXET_H
 #define LUMBIXET_H
@@ -37,10 +39,10 @@ extern "C" {
 
 /* The version of this header and of the archive that goes with it: its parts, one number to compare, and its name. */
 #define LUMBIXET_VERSION_MAJOR 0
-#define LUMBIXET_VERSION_MINOR 9
+#define LUMBIXET_VERSION_MINOR 10
 #define LUMBIXET_VERSION_PATCH 0
 #define LUMBIXET_VERSION (10000 * LUMBIXET_VERSION_MAJOR + 100 * LUMBIXET_VERSION_MINOR + LUMBIXET_VERSION_PATCH)
-#define LUMBIXET_VERSION_TEXT "0.9.0"
+#define LUMBIXET_VERSION_TEXT "0.10.0"
 
 /* The largest number, threshold and time: 2^62 - 1. */
 #define LUMBIXET_LARGEST UINT64_C(4611686018427387903)

@@ -3,13 +3,14 @@
 
 use crate::random::Random;
 use crate::tally::Tally;
-use crate::{compare_codec, compare_counts, compare_forms, compare_limits, compare_newest, compare_profiles};
+use crate::{compare_codec, compare_counts, compare_forms, compare_limits, compare_newest, compare_pieces, compare_profiles};
 use crate::{compare_ranges, compare_receiver, compare_report, compare_sent, compare_totals, compare_tracker};
 
 /// Each round takes a made-up record through all calls, goes on with a grown one, and reads and writes frames and a report.
 /// Some rounds take a report through all its longer forms, some through the counts of entries at the limit, some through what
-/// the profiles tell apart, some through the search for the newest lost object, some take the tracker's records and those of
-/// the sending side through their calls, and some a week's totals. The first rounds write a window of each number of ranges.
+/// the profiles tell apart, some through the search for the newest lost object, some take the records of the tracker, of the
+/// sending side and of the reader in pieces through their calls, and some a week's totals. Every report that is read is also
+/// read in parts. The first rounds write a window of each number of ranges.
 pub fn run(count: usize) -> Result<(), String> {
     let mut random = Random::from_seed(2);
     let mut tally = Tally::default();
@@ -41,6 +42,7 @@ pub fn run(count: usize) -> Result<(), String> {
             compare_sent::made_up(&mut random, &mut tally)?;
             compare_sent::grown(&mut random, &mut tally)?;
             compare_totals::round(&mut random, &mut tally)?;
+            compare_pieces::made_up(&mut random, &mut tally)?;
         }
         if (round + 1) % 1000 == 0 {
             println!("{} of {count} rounds agree", round + 1);

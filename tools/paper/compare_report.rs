@@ -2,6 +2,7 @@
 
 use crate::archive::*;
 use crate::compare_newest::compare_newest;
+use crate::compare_pieces::compare_cut;
 use crate::made_up::argument;
 use crate::made_up_bytes::damaged;
 use crate::made_up_report::{break_header, break_records, header, profile, profile_of, records, report};
@@ -100,6 +101,7 @@ pub fn compare_readers(random: &mut Random, tally: &mut Tally, profile: u64, byt
         compare_written_again(profile, bytes, &papers.header)?;
     }
     compare_newest(tally, profile, bytes)?;
+    compare_cut(random, tally, profile, bytes)?;
     let (start, length) = find_entries(profile, bytes);
     let archive = unsafe { lumbixet_find_entries(profile, bytes.as_ptr(), bytes.len()) };
     let papers = Entries { start: start as u64, length: length as u64 };

@@ -4,8 +4,8 @@
 use crate::example_lines::Examples;
 use crate::examples_wire;
 use crate::replay;
-use crate::{examples_counts, examples_newest, examples_profile, examples_receiver, examples_report};
-use crate::{examples_sent, examples_tracker};
+use crate::{examples_counts, examples_newest, examples_pieces, examples_profile, examples_receiver};
+use crate::{examples_report, examples_sent, examples_tracker};
 
 pub fn run() -> Result<(), String> {
     let mut examples = Examples::default();
@@ -15,6 +15,7 @@ pub fn run() -> Result<(), String> {
     examples_report::check(&mut examples);
     examples_profile::check(&mut examples);
     examples_newest::check(&mut examples);
+    examples_pieces::check(&mut examples);
     examples_tracker::check(&mut examples);
     examples_sent::check(&mut examples);
     replays(&mut examples);

@@ -23,6 +23,8 @@ mod compare_limits;
 #[cfg(archive)]
 mod compare_newest;
 #[cfg(archive)]
+mod compare_pieces;
+#[cfg(archive)]
 mod compare_profiles;
 #[cfg(archive)]
 mod compare_ranges;
@@ -42,6 +44,7 @@ mod example_lines;
 mod examples;
 mod examples_counts;
 mod examples_newest;
+mod examples_pieces;
 mod examples_profile;
 mod examples_receiver;
 mod examples_report;
@@ -54,6 +57,8 @@ mod made_up;
 #[cfg(archive)]
 mod made_up_bytes;
 #[cfg(archive)]
+mod made_up_pieces;
+#[cfg(archive)]
 mod made_up_report;
 #[cfg(archive)]
 mod made_up_sent;
@@ -63,6 +68,7 @@ mod made_up_tracker;
 mod moments;
 mod newest;
 mod numbers;
+mod pieces;
 mod profile;
 mod random;
 mod receiver;

@@ -44,7 +44,7 @@ fn stored(average: i64) -> u64 {
 }
 
 /// The number that is stored so.
-fn restored(stored: u64) -> i64 {
+pub fn restored(stored: u64) -> i64 {
     let half = (stored / 2) as i64;
     if stored % 2 == 0 {
         half
@@ -76,10 +76,7 @@ pub fn read_header(most: u64, profile: Profile, bytes: &[u8]) -> Result<(Header,
     let mut header = read_summary(&mut fields)?;
     read_metrics(profile, &mut fields, &mut header)?;
     header.entries = fields.report_number()?;
-    // "in a reader 10 above 200 entries"
-    if header.entries > most {
-        return Err(COUNT_OR_TYPE);
-    }
+    judge_entry_count(most, header.entries)?;
     // "If too few bytes remain for the entries, 2 comes before any 12; 13 is last."
     let end = fields.at + profile.record() * header.entries as usize;
     if end > bytes.len() {
@@ -117,7 +114,7 @@ fn read_metrics(profile: Profile, fields: &mut Fields, header: &mut Header) -> R
 }
 
 /// "total differs from received + late + lost"
-fn judge_sum(header: &Header) -> Result<(), u64> {
+pub fn judge_sum(header: &Header) -> Result<(), u64> {
     let parts = [header.received, header.late, header.lost];
     if u128::from(header.total) != parts.iter().map(|part| u128::from(*part)).sum() {
         return Err(SUM);
@@ -126,16 +123,24 @@ fn judge_sum(header: &Header) -> Result<(), u64> {
 }
 
 /// "10 for odd types or more than 8"; in profile 1 for more than 4.
-fn judge_metric_count(profile: Profile, count: u64) -> Result<(), u64> {
+pub fn judge_metric_count(profile: Profile, count: u64) -> Result<(), u64> {
     if count > profile.most_metrics() as u64 {
         return Err(COUNT_OR_TYPE);
     }
     Ok(())
 }
 
-fn judge_type(profile: Profile, kinds: &[u64], index: usize) -> Result<(), u64> {
+pub fn judge_type(profile: Profile, kinds: &[u64], index: usize) -> Result<(), u64> {
     let rises = index == 0 || kinds[index - 1] < kinds[index];
     if !rises || !profile.allows(kinds[index]) {
+        return Err(COUNT_OR_TYPE);
+    }
+    Ok(())
+}
+
+/// "in a reader 10 above 200 entries"
+pub fn judge_entry_count(most: u64, count: u64) -> Result<(), u64> {
+    if count > most {
         return Err(COUNT_OR_TYPE);
     }
     Ok(())

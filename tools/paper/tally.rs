@@ -44,9 +44,12 @@ impl Tally {
 
     /// Counts a moment of the list, where it is one.
     pub fn note(&mut self, moment: &'static str, is_one: bool) {
-        assert!(MOMENTS.contains(&moment), "no moment of the list: {moment}");
         if is_one {
-            *self.moments.entry(moment).or_default() += 1;
+            let count = self.moments.entry(moment).or_insert_with(|| {
+                assert!(MOMENTS.contains(&moment), "no moment of the list: {moment}");
+                0
+            });
+            *count += 1;
         }
     }
 

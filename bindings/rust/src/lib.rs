@@ -1,11 +1,13 @@
 //! Lumbixet, the receiver of a live hearing, for hosts in Rust: which acknowledgments a QUIC receiver owes its sender, the
 //! frames that say so, and feedback reports. A safe interface over liblumbixet.a, whose every function is proved.
 //!
-//! No call allocates, waits, or keeps anything between calls. A refused call changes nothing.
+//! No call allocates, waits, or keeps anything between calls. A refused call changes nothing; of a report in [`Pieces`] alone the
+//! entries that came before the fault stay.
 //!
 //! A host names this folder in its Cargo.toml: `lumbixet = { path = ".." }`. The archive is sought in the folder that
 //! LUMBIXET_LIB_DIR names; where it names none, in this checkout (`make archive`), then where pkg-config finds one.
-//! docs/DRIVING.md shows the order of calls, docs/TRACKING.md that of the tracker, docs/SENDING.md that of the loss list.
+//! docs/DRIVING.md shows the order of calls, docs/TRACKING.md that of the tracker, docs/SENDING.md that of the loss list,
+//! docs/UNCUT.md that of a report in pieces.
 //!
 //! ```
 //! use lumbixet::{Cause, Mark, Micros, Millis, Packet, Receiver, ACK_ROOM};
@@ -31,6 +33,7 @@ extern crate std;
 
 mod frames;
 mod marks;
+mod pieces;
 mod profile;
 pub mod raw;
 mod receiver;
@@ -42,6 +45,7 @@ mod week;
 
 pub use frames::{read_number, write_number, Ack, Frequency, Immediate};
 pub use marks::{Counts, Mark, Totals};
+pub use pieces::{Pieces, Taken};
 pub use profile::{Metrics, Profile, Record};
 pub use receiver::{Heard, Packet, Receiver};
 pub use refusal::{Cause, Refusal};

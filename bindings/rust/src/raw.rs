@@ -2,6 +2,11 @@
 //! The second implementation (tools/paper) is held against the archive through this same file.
 #![allow(missing_docs)] // the C header says what each field is
 
+#[path = "raw_pieces.rs"]
+mod pieces;
+
+pub use pieces::*;
+
 #[path = "raw_sent.rs"]
 mod sent;
 pub use sent::*;

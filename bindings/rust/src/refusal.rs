@@ -2,7 +2,8 @@
 
 use core::fmt;
 
-/// Why a call was refused. A refused call changes nothing: no record, no element of a lent slice.
+/// Why a call was refused. A refused call changes nothing: no record, no element of a lent slice. [`Pieces`](crate::Pieces) alone
+/// leaves the entries that came before the fault.
 #[derive(Clone, Copy, Debug, PartialEq, Eq, Hash)]
 #[non_exhaustive]
 pub enum Refusal {

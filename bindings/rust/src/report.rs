@@ -136,6 +136,10 @@ pub struct Entries<'a> {
 }
 
 impl<'a> Entries<'a> {
+    pub(crate) fn of(profile: Profile, bytes: &'a [u8]) -> Entries<'a> {
+        Entries { profile, bytes }
+    }
+
     /// Their bytes in the report.
     #[must_use]
     pub fn bytes(&self) -> &'a [u8] {

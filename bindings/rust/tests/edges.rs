@@ -6,6 +6,7 @@ use lumbixet::*;
 const HEADERS: &str = concat!(
     include_str!("../../../include/lumbixet.h"),
     include_str!("../../../include/lumbixet_lent.h"),
+    include_str!("../../../include/lumbixet_pieces.h"),
     include_str!("../../../include/lumbixet_report.h"),
     include_str!("../../../include/lumbixet_sent.h"),
     include_str!("../../../include/lumbixet_text.h"),

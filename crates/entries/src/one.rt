@@ -25,7 +25,7 @@ fn group_in(profile: Profile, bytes: &[u8]) -> Fixed
 }
 
 // The entry in a record's bytes: its group, where the profile has one, then the rest.
-fn entry_of(profile: Profile, bytes: &[u8]) -> Entry
+pub fn entry_of(profile: Profile, bytes: &[u8]) -> Entry
     ensures { λ r. ⌜ r ≡ entryOf profile (now (bytes .entry)) ⌝ }
 {
     let Fixed::Value {

@@ -16,6 +16,18 @@ use Rattle.report.proofs.writer.write_report.Reads as write-report
 use Rattle.report.proofs.writer.write_report.Kinds as write-report-kinds
 use Rattle.report.proofs.Written.refusal.Reads as written-refusal
 use Rattle.report.proofs.Written.refusal.Kinds as written-refusal-kinds
+use Rattle.report.proofs.judging.judge_field.Reads as judge-field
+use Rattle.report.proofs.judging.judge_field.Kinds as judge-field-kinds
+use Rattle.report.proofs.judging.most_metrics.Reads as most-metrics
+use Rattle.report.proofs.judging.most_metrics.Kinds as most-metrics-kinds
+use Rattle.report.proofs.judging.wanted.Reads as wanted
+use Rattle.report.proofs.judging.wanted.Kinds as wanted-kinds
+use Rattle.report.proofs.judging.number_at.Reads as number-at
+use Rattle.report.proofs.judging.number_at.Kinds as number-at-kinds
+use Rattle.report.proofs.headers.header_of.Reads as header-of
+use Rattle.report.proofs.headers.header_of.Kinds as header-of-kinds
+use Rattle.report.proofs.headers.empty_header.Reads as empty-header
+use Rattle.report.proofs.headers.empty_header.Kinds as empty-header-kinds
 
 pub read-report-one : OneAnswer 1 read-report-kinds.ps read-report-kinds.r read-report.Post
 read-report-one κs given x y s t p q = p ∙ sym q
@@ -33,3 +45,21 @@ write-report-one κs given x y s t p q = (p .0 ∙ sym (q .0), p .1 ∙ sym (q .
 
 pub written-refusal-one : OneAnswer 0 written-refusal-kinds.ps written-refusal-kinds.r written-refusal.Post
 written-refusal-one κs given x y s t p q = p ∙ sym q
+
+pub judge-field-one : OneAnswer 1 judge-field-kinds.ps judge-field-kinds.r judge-field.Post
+judge-field-one κs given x y s t p q = p ∙ sym q
+
+pub most-metrics-one : OneAnswer 0 most-metrics-kinds.ps most-metrics-kinds.r most-metrics.Post
+most-metrics-one κs given x y s t p q = p .0 ∙ sym (q .0)
+
+pub wanted-one : OneAnswer 1 wanted-kinds.ps wanted-kinds.r wanted.Post
+wanted-one κs given x y s t p q = p ∙ sym q
+
+pub number-at-one : OneAnswer 1 number-at-kinds.ps number-at-kinds.r number-at.Post
+number-at-one κs given x y s t p q = p ∙ sym q
+
+pub header-of-one : OneAnswer 1 header-of-kinds.ps header-of-kinds.r header-of.Post
+header-of-one κs given x y s t p q = p ∙ sym q
+
+pub empty-header-one : OneAnswer 0 empty-header-kinds.ps empty-header-kinds.r empty-header.Post
+empty-header-one κs given x y s t p q = p ∙ sym q

@@ -73,7 +73,7 @@ fn metrics_of(numbers: &[u64], part: usize) -> [u64; METRIC_PLACES]
 }
 
 // The header that the numbers are.
-pub(crate) fn header_of(numbers: &[u64]) -> Header
+pub fn header_of(numbers: &[u64]) -> Header
     ensures { λ r. ⌜ r ≡ headerOf (now (numbers .entry)) ⌝ }
 {
     let kinds = metrics_of(numbers, TYPE);
@@ -95,7 +95,7 @@ pub(crate) fn header_of(numbers: &[u64]) -> Header
 }
 
 // All numbers 0, no metrics, no entries.
-pub(crate) fn empty_header() -> Header
+pub fn empty_header() -> Header
     ensures { λ r. ⌜ r ≡ emptyHeader ⌝ }
 {
     let none = [0u64; METRIC_PLACES];

@@ -18,7 +18,7 @@ use entries::MOST_ENTRIES;
 use entries::Profile;
 
 // At most so many metrics in a report of the profile.
-fn most_metrics(profile: Profile) -> usize
+pub fn most_metrics(profile: Profile) -> usize
     ensures { λ r. ⌜ (r ≡ mostMetrics profile) × (r ≤ metricPlaces) ⌝ }
 {
     match profile {
@@ -62,7 +62,7 @@ fn adds_up(total: u64, received: u64, late: u64, lost: u64) -> bool
 }
 
 // What a field brings, 0 for no refusal: 15 for a longer form, then what its number does. It is one step of the reader.
-pub(crate) fn judge_field(profile: Profile, numbers: &[u64], v: u64, shortest: bool) -> u64
+pub fn judge_field(profile: Profile, numbers: &[u64], v: u64, shortest: bool) -> u64
     ensures { λ r. ⌜ r ≡ judgeField profile (now (numbers .entry)) v shortest ⌝ }
 {
     if !shortest {
@@ -133,14 +133,14 @@ pub(crate) fn looked_at(profile: Profile, metrics: u64) -> usize
 }
 
 // The number at i, 0 past the last.
-pub(crate) fn number_at(numbers: &[u64], i: usize) -> u64
+pub fn number_at(numbers: &[u64], i: usize) -> u64
     ensures { λ r. ⌜ r ≡ getD (now (numbers .entry)) i 0 ⌝ }
 {
     if i < numbers.len() { numbers[i] } else { 0 }
 }
 
 // How many numbers the header has, as far as the numbers so far tell.
-pub(crate) fn wanted(profile: Profile, numbers: &[u64]) -> usize
+pub fn wanted(profile: Profile, numbers: &[u64]) -> usize
     ensures { λ r. ⌜ r ≡ wantedOf profile (now (numbers .entry)) ⌝ }
 {
     let metrics = number_at(numbers, AT_METRICS);

@@ -17,6 +17,12 @@ use entries::Profile;
 pub use entries::Status;
 pub use entries::read_entry;
 pub use head::read_head;
+pub use headers::empty_header;
+pub use headers::header_of;
+pub use judging::judge_field;
+pub use judging::most_metrics;
+pub use judging::number_at;
+pub use judging::wanted;
 pub use reader::entries_of;
 pub use reader::read_report;
 pub use writer::write_report;
@@ -25,7 +31,7 @@ pub use writer::write_report;
 const METRIC_PLACES: usize = 8;
 
 // The numbers that every header has, a type and a value for each metric, and the entry count.
-const MOST_NUMBERS: usize = layout::FIXED + 2 * METRIC_PLACES + 1;
+pub const MOST_NUMBERS: usize = layout::FIXED + 2 * METRIC_PLACES + 1;
 
 // The summary of a report, and what comes with it. On a refusal all numbers are 0.
 #[repr(C)]

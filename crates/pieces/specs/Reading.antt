@@ -1,0 +1,74 @@
+-- The next field behind what is carried, and a row of records read where it stands.
+use Prim.Native.Nat.{ℕ, zero, suc, _+_, _-_}
+use mathlib.Core.Bool.{Bool, true, false}
+use mathlib.Core.List.{List}
+use lib.Dec.{eqb, leb}
+use lib.ListN.{take, drop}
+use Rattle.wire.specs.Bytes.{pick}
+use Rattle.wire.specs.declared.Number.{Number}
+use Rattle.wire.specs.declared.Number.the-variants.{Value, Ends}
+use Rattle.entries.specs.Profiles.{recordSize}
+use Rattle.entries.specs.Entries.{entryOf, atOrAbove}
+use Rattle.entries.specs.declared.Profile.{Profile}
+use Rattle.entries.specs.declared.Entry.{Entry}
+use Rattle.entries.specs.declared.Entry.the-variants.{Record, Ends as EntryEnds, Broken, OtherProfile}
+use Rattle.pieces.specs.declared.Key.{Key}
+use Rattle.pieces.specs.declared.Key.the-variants.{Good, Bad}
+use Rattle.pieces.specs.declared.Run.{Run}
+use Rattle.pieces.specs.declared.Stand.{Stand}
+use Rattle.pieces.specs.declared.Moved.{Moved}
+
+-- a place that the header's numbers lead to
+abbrev pub movedTo : ℕ → ℕ → ℕ → List ℕ → ℕ → List ℕ → ℕ → Moved
+movedTo stage left count numbers carried held taken = record {
+  now = record { stage = stage; left = left; last = 0; above = 0; count = count; carried = carried; numbers = numbers; held = held };
+  taken = taken;
+  records = 0;
+}
+
+-- the bytes are counted on
+abbrev pub countedOn : Stand → ℕ → ℕ → ℕ → Moved
+countedOn s left taken records = record {
+  now = record { stage = 2; left = left; last = s .last; above = s .above; count = s .count; carried = s .carried; numbers = s .numbers; held = s .held };
+  taken = taken;
+  records = records;
+}
+
+-- a record is carried, and so many bytes more make it whole
+abbrev pub completesOf : ℕ → ℕ → ℕ → ℕ → ℕ → Bool
+completesOf stage left carried size bytes =
+    pick (eqb stage 1) (pick (eqb left 0) false (pick (eqb carried 0) false (leb size (carried + bytes)))) false
+
+-- records are coming, and nothing is carried
+abbrev pub rowHere : ℕ → ℕ → Bool
+rowHere stage carried = pick (eqb stage 1) (eqb carried 0) false
+
+-- no byte is taken
+abbrev pub still : Stand → Moved
+still s = record { now = s; taken = 0; records = 0 }
+
+-- a number whose first bytes are carried ends so far behind the place at
+abbrev pub shifted : ℕ → ℕ → Number → Number
+shifted carried at (Value v next shortest) = Value v (at + (next - carried)) shortest
+shifted carried at Ends = Ends
+
+-- what a record leaves for the next one, if it is good after the one before
+abbrev pub keyIn : ℕ → ℕ → Entry → Key
+keyIn last above (Record group object status age) = pick (atOrAbove last above group object) (Good group (suc object)) Bad
+keyIn last above EntryEnds = Bad
+keyIn last above Broken = Bad
+keyIn last above OtherProfile = Bad
+
+unfoldable pub keyOf : Profile → ℕ → ℕ → List ℕ → Key
+keyOf p last above r = keyIn last above (entryOf p r)
+
+abbrev pub byKey : {A : Type 0} → Key → (ℕ → ℕ → A) → A → A
+byKey (Good group above) f x = f group above
+byKey Bad f x = x
+
+-- how many of n records are good one after the other, counted on from good
+unfoldable pub runFrom : Profile → ℕ → ℕ → ℕ → ℕ → List ℕ → Run
+runFrom p zero good last above s = record { good = good; last = last; above = above }
+runFrom p (suc n) good last above s =
+    byKey (keyOf p last above (take (recordSize p) s)) (λ group next. runFrom p n (suc good) group next (drop (recordSize p) s))
+    (record { good = good; last = last; above = above })

@@ -1,0 +1,159 @@
+// The header's numbers, each read as soon as it is whole: where it stands, or behind the bytes that are carried.
+ghost use mathlib.Core.Path.{_≡_};
+ghost use mathlib.Core.List.{List, _++_};
+ghost use Prim.Native.Nat.{ℕ, _+_, _≤_, min};
+ghost use lib.ListN.{length, take, drop};
+ghost use Rattle.wire.specs.Numbers.{readNumber};
+ghost use Rattle.pieces.specs.Reading.{shifted, movedTo, still};
+ghost use Rattle.pieces.specs.Record.{stateIn};
+ghost use Rattle.pieces.specs.Serving.{Sits, Served, Past};
+use crate::CARRIED;
+use crate::Moved;
+use crate::NUMBERS;
+use crate::RECORDS;
+use crate::REFUSED;
+use crate::Stand;
+use entries::Profile;
+use report::MOST_NUMBERS;
+use report::judge_field;
+use report::wanted;
+use wire::Number;
+
+// The longest field is so many bytes long.
+const LONGEST: usize = 8;
+
+// The bytes that are carried, with more behind them.
+pub(crate) fn joined(held: [u8; CARRIED], carried: usize, more: &[u8]) -> [u8; CARRIED]
+    requires { ⌜ carried + length (now more) ≤ 24 ⌝ }
+    ensures { λ r. ⌜ (length r ≡ 24) × (take (carried + length (now (more .entry))) r ≡ take carried held ++ now (more .entry)) ⌝ }
+{
+    let mut next = held;
+    let mut i: usize = 0;
+    while i < more.len() {
+        next[carried + i] = more[i];
+        i += 1;
+    }
+    next
+}
+
+// The smaller of the two.
+pub(crate) fn smaller_of(a: usize, b: usize) -> usize
+    ensures { λ r. ⌜ r ≡ min a b ⌝ }
+{
+    if a <= b { a } else { b }
+}
+
+// The field that begins with the bytes carried and goes on at at.
+fn next_field(held: [u8; CARRIED], carried: usize, part: &[u8], at: usize) -> Number
+    requires { ⌜ ((carried ≤ 8) × (at ≤ length (now part))) × (readNumber (take carried held) 0 ≡ Number.Ends) ⌝ }
+    ensures { λ r. ⌜ r ≡ shifted carried at (readNumber (take carried held ++ drop at (now (part .entry))) 0) ⌝ }
+{
+    if carried == 0 {
+        return wire::read_number(part, at);
+    }
+    let more = smaller_of(LONGEST - carried, part.len() - at);
+    let end = at + more;
+    let field = joined(held, carried, &part[at..end]);
+    let length = carried + more;
+    let Number::Value {
+        value,
+        next,
+        shortest,
+    } = wire::read_number(&field[..length], 0)
+    else {
+        return Number::Ends;
+    };
+    Number::Value {
+        value,
+        next: at + (next - carried),
+        shortest,
+    }
+}
+
+// A place where the header's numbers lead to.
+fn moved(
+    stage: u64,
+    left: u64,
+    count: usize,
+    numbers: [u64; MOST_NUMBERS],
+    carried: usize,
+    held: [u8; CARRIED],
+    taken: usize,
+) -> Moved
+    ensures { λ r. ⌜ r ≡ movedTo stage left count numbers carried held taken ⌝ }
+{
+    let now = Stand {
+        stage,
+        left,
+        last: 0,
+        above: 0,
+        count,
+        carried,
+        numbers,
+        held,
+    };
+    Moved {
+        now,
+        taken,
+        records: 0,
+    }
+}
+
+// Takes the header's numbers, each judged as soon as it is whole by the step of the whole reader. What is left of a field is carried.
+pub(crate) fn take_numbers(profile: Profile, from: Stand, part: &[u8]) -> Moved
+    requires { ⌜ (Sits profile from) × (from .stage ≡ 0) ⌝ }
+    ensures { λ r. ⌜ ((out : List ℕ) → Served profile (stateIn from) (now (part .entry)) out r out) × Past (stateIn (r .now)) (drop (r .taken) (now (part .entry))) ⌝ }
+{
+    let mut numbers = from.numbers;
+    let mut count = from.count;
+    let held = from.held;
+    let mut carried = from.carried;
+    let mut at: usize = 0;
+    while at < part.len() {
+        let Number::Value {
+            value,
+            next,
+            shortest,
+        } = next_field(held, carried, part, at)
+        else {
+            let end = carried + (part.len() - at);
+            let kept = joined(held, carried, &part[at..]);
+            return moved(NUMBERS, 0, count, numbers, end, kept, part.len());
+        };
+        let refusal = judge_field(profile, &numbers[..count], value, shortest);
+        if refusal != 0 {
+            return moved(REFUSED, refusal, count, numbers, carried, held, next);
+        }
+        numbers[count] = value;
+        count += 1;
+        carried = 0;
+        at = next;
+        if wanted(profile, &numbers[..count]) <= count {
+            return moved(RECORDS, value, count, numbers, carried, held, at);
+        }
+    }
+    moved(NUMBERS, 0, count, numbers, carried, held, at)
+}
+
+// The same where the header is whole already, or not.
+pub(crate) fn through_header(profile: Profile, from: Stand, part: &[u8]) -> Moved
+    requires { ⌜ Sits profile from ⌝ }
+    ensures { λ r. ⌜ ((out : List ℕ) → Served profile (stateIn from) (now (part .entry)) out r out) × Past (stateIn (r .now)) (drop (r .taken) (now (part .entry))) ⌝ }
+{
+    let stage = from.stage;
+    if stage == NUMBERS {
+        return take_numbers(profile, from, part);
+    }
+    as_it_was(from)
+}
+
+// No byte is taken.
+pub(crate) fn as_it_was(from: Stand) -> Moved
+    ensures { λ r. ⌜ r ≡ still from ⌝ }
+{
+    Moved {
+        now: from,
+        taken: 0,
+        records: 0,
+    }
+}

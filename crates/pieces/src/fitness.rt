@@ -1,0 +1,120 @@
+// Which records are served.
+ghost use mathlib.Core.Path.{_≡_};
+ghost use mathlib.Core.Bool.{false};
+ghost use lib.ListN.{length};
+ghost use Rattle.entries.specs.Profiles.{ofProfile};
+ghost use Rattle.pieces.specs.Fitness.{numbersFit, fieldFit, rowsFit, canStand, standFit};
+use crate::CARRIED;
+use crate::Stand;
+use entries::MOST_ENTRIES;
+use entries::Profile;
+use entries::record_size;
+use report::MOST_NUMBERS;
+use report::most_metrics;
+use report::number_at;
+use report::wanted;
+use wire::LARGEST;
+use wire::Number;
+
+// The metric count stands here among the numbers.
+const AT_METRICS: usize = 7;
+
+// Whether the numbers obey 5 and no more metrics are counted than the profile has.
+fn numbers_fit(profile: Profile, numbers: &[u64]) -> bool
+    ensures { λ r. ⌜ r ≡ numbersFit profile (now (numbers .entry)) ⌝ }
+{
+    let wire::Length::Bytes(_) = wire::length_of(numbers) else {
+        return false;
+    };
+    number_at(numbers, AT_METRICS) <= most_metrics(profile) as u64
+}
+
+// Whether a further number is wanted and the bytes are no whole field.
+fn field_fit(profile: Profile, numbers: &[u64], held: &[u8]) -> bool
+    ensures { λ r. ⌜ r ≡ fieldFit profile (now (numbers .entry)) (now (held .entry)) ⌝ }
+{
+    if wanted(profile, numbers) <= numbers.len() {
+        return false;
+    }
+    let Number::Ends = wire::read_number(held, 0) else {
+        return false;
+    };
+    true
+}
+
+// Whether what is known of the records obeys 5 and the limits.
+fn rows_fit(profile: Profile, left: u64, last: u64, above: u64, carried: usize) -> bool
+    ensures { λ r. ⌜ r ≡ rowsFit profile left last above carried ⌝ }
+{
+    if (MOST_ENTRIES as u64) < left {
+        return false;
+    }
+    if LARGEST < last {
+        return false;
+    }
+    if LARGEST + 1 < above {
+        return false;
+    }
+    carried < record_size(profile)
+}
+
+// Whether a report can bring the refusal.
+fn can_stand(refusal: u64) -> bool
+    ensures { λ r. ⌜ r ≡ canStand refusal ⌝ }
+{
+    match refusal {
+        2 => true,
+        10 => true,
+        11 => true,
+        12 => true,
+        13 => true,
+        15 => true,
+        _ => false,
+    }
+}
+
+// Whether the words fit the profile.
+fn stand_fit(profile: Profile, s: Stand) -> bool
+    ensures { λ r. ⌜ r ≡ standFit profile s ⌝ }
+{
+    let count = s.count;
+    let carried = s.carried;
+    if MOST_NUMBERS < count {
+        return false;
+    }
+    if CARRIED < carried {
+        return false;
+    }
+    let numbers = s.numbers;
+    let held = s.held;
+    let stage = s.stage;
+    match stage {
+        0 => {
+            if !numbers_fit(profile, &numbers[..count]) {
+                return false;
+            }
+            field_fit(profile, &numbers[..count], &held[..carried])
+        }
+        1 => {
+            if !numbers_fit(profile, &numbers[..count]) {
+                return false;
+            }
+            rows_fit(profile, s.left, s.last, s.above, carried)
+        }
+        2 => numbers_fit(profile, &numbers[..count]),
+        3 => can_stand(s.left),
+        4 => numbers_fit(profile, &numbers[..count]),
+        _ => false,
+    }
+}
+
+// Whether the record is consistent.
+pub(crate) fn consistent(profile: u64, s: Stand) -> bool
+    ensures { λ r. ⌜ r ≡ ofProfile profile false (λ p. standFit p s) ⌝ }
+{
+    match profile {
+        1 => stand_fit(Profile::One, s),
+        2 => stand_fit(Profile::Two, s),
+        _ => false,
+    }
+}

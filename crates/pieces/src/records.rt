@@ -1,0 +1,201 @@
+// The records: the one that is carried is made whole, then those that lie whole in the part are judged where they stand.
+ghost use mathlib.Core.Path.{_≡_};
+ghost use Prim.Native.Nat.{_-_, _*_, _/_, _≤_, _<_};
+ghost use lib.ListN.{length, drop};
+ghost use Rattle.entries.specs.Profiles.{recordSize};
+ghost use Rattle.pieces.specs.Reading.{keyOf, runFrom, countedOn, completesOf, rowHere};
+ghost use Rattle.pieces.specs.Record.{stateIn};
+ghost use Rattle.pieces.specs.Serving.{Sits, Served, Past, Begun, Short};
+use crate::COUNTING;
+use crate::Key;
+use crate::Moved;
+use crate::RECORDS;
+use crate::Run;
+use crate::Stand;
+use crate::fields::as_it_was;
+use crate::fields::joined;
+use crate::fields::smaller_of;
+use entries::Entry;
+use entries::Profile;
+use entries::at_or_above;
+use entries::entry_of;
+use entries::record_size;
+use entries::records_in;
+
+// The key of a record, if it is good after the one before.
+fn key_of(profile: Profile, last: u64, above: u64, bytes: &[u8]) -> Key
+    ensures { λ r. ⌜ r ≡ keyOf profile last above (now (bytes .entry)) ⌝ }
+{
+    let Entry::Record {
+        group,
+        object,
+        status: _,
+        age: _,
+    } = entry_of(profile, bytes)
+    else {
+        return Key::Bad;
+    };
+    if !at_or_above(last, above, group, object) {
+        return Key::Bad;
+    }
+    Key::Good {
+        group,
+        above: object + 1,
+    }
+}
+
+// How many records are good one after the other.
+fn run_of(profile: Profile, last: u64, above: u64, records: &[u8]) -> Run
+    ensures { λ r. ⌜ r ≡ runFrom profile (length (now (records .entry)) / recordSize profile) 0 last above (now (records .entry)) ⌝ }
+{
+    let size = record_size(profile);
+    let n = records_in(profile, records.len());
+    let mut group_before = last;
+    let mut end_before = above;
+    let mut i: usize = 0;
+    while i < n {
+        let at = i * size;
+        let end = at + size;
+        let Key::Good { group, above: next } = key_of(
+            profile,
+            group_before,
+            end_before,
+            &records[at..end],
+        ) else {
+            return Run {
+                good: i,
+                last: group_before,
+                above: end_before,
+            };
+        };
+        group_before = group;
+        end_before = next;
+        i += 1;
+    }
+    Run {
+        good: i,
+        last: group_before,
+        above: end_before,
+    }
+}
+
+// Copies from over the whole of to, which is as long.
+fn copy(to: &mut [u8], from: &[u8])
+    requires { ⌜ length (now to) ≡ length (now from) ⌝ }
+    ensures { λ r. ⌜ now (to .exit) ≡ now (from .entry) ⌝ }
+{
+    let mut i: usize = 0;
+    while i < from.len() {
+        to[i] = from[i];
+        i += 1;
+    }
+}
+
+// A bad record came: the bytes of those still to come are counted on.
+fn after_bad(profile: Profile, from: Stand, left: u64, taken: usize, records: usize) -> Moved
+    requires { ⌜ left ≤ 200 ⌝ }
+    ensures { λ r. ⌜ r ≡ countedOn from (recordSize profile * left) taken records ⌝ }
+{
+    let mut now = from;
+    now.stage = COUNTING;
+    now.left = (record_size(profile) as u64) * left;
+    Moved {
+        now,
+        taken,
+        records,
+    }
+}
+
+// Whether the bytes at hand make the record that is carried whole.
+fn completes(stage: u64, left: u64, carried: usize, size: usize, bytes: usize) -> bool
+    requires { ⌜ (carried ≤ 24) × (bytes < 9223372036854775808) ⌝ }
+    ensures { λ r. ⌜ r ≡ completesOf stage left carried size bytes ⌝ }
+{
+    if stage != RECORDS {
+        return false;
+    }
+    if left == 0 {
+        return false;
+    }
+    if carried == 0 {
+        return false;
+    }
+    size <= carried + bytes
+}
+
+// Makes the record that is carried whole, if the part has the bytes.
+pub(crate) fn complete(profile: Profile, from: Stand, part: &[u8], out: &mut [u8]) -> Moved
+    requires { ⌜ (Sits profile from) × ((Past (stateIn from) (now part)) × (recordSize profile ≤ length (now out))) ⌝ }
+    ensures { λ r. ⌜ (Served profile (stateIn from) (now (part .entry)) (now (out .entry)) r (now (out .exit))) × (Begun profile (stateIn (r .now)) (drop (r .taken) (now (part .entry)))) ⌝ }
+{
+    let stage = from.stage;
+    let left = from.left;
+    let carried = from.carried;
+    let size = record_size(profile);
+    if !completes(stage, left, carried, size, part.len()) {
+        return as_it_was(from);
+    }
+    let need = size - carried;
+    let held = from.held;
+    let record = joined(held, carried, &part[..need]);
+    let Key::Good { group, above } = key_of(profile, from.last, from.above, &record[..size]) else {
+        return after_bad(profile, from, left - 1, need, 0);
+    };
+    copy(&mut out[..size], &record[..size]);
+    let mut now = from;
+    now.left = left - 1;
+    now.last = group;
+    now.above = above;
+    now.carried = 0;
+    Moved {
+        now,
+        taken: need,
+        records: 1,
+    }
+}
+
+// Whether records may be read where they stand.
+fn row_here(stage: u64, carried: usize) -> bool
+    ensures { λ r. ⌜ r ≡ rowHere stage carried ⌝ }
+{
+    if stage != RECORDS {
+        return false;
+    }
+    carried == 0
+}
+
+// Takes the records that lie whole in the part, as many as are to come and fit the buffer, up to the first bad one.
+pub(crate) fn in_place(profile: Profile, from: Stand, part: &[u8], out: &mut [u8]) -> Moved
+    requires { ⌜ (Sits profile from) × (Begun profile (stateIn from) (now part)) ⌝ }
+    ensures { λ r. ⌜ (Served profile (stateIn from) (now (part .entry)) (now (out .entry)) r (now (out .exit))) × (Short profile (length (now (out .entry)) - recordSize profile * r .records) (stateIn (r .now)) (drop (r .taken) (now (part .entry)))) ⌝ }
+{
+    let stage = from.stage;
+    let carried = from.carried;
+    if !row_here(stage, carried) {
+        return as_it_was(from);
+    }
+    let left = from.left;
+    let size = record_size(profile);
+    let room = records_in(profile, out.len());
+    let n = smaller_of(
+        left as usize,
+        smaller_of(records_in(profile, part.len()), room),
+    );
+    let bytes = size * n;
+    let run = run_of(profile, from.last, from.above, &part[..bytes]);
+    let good = run.good;
+    let end = size * good;
+    copy(&mut out[..end], &part[..end]);
+    if good < n {
+        return after_bad(profile, from, left - 1 - good as u64, end + size, good);
+    }
+    let mut now = from;
+    now.left = left - good as u64;
+    now.last = run.last;
+    now.above = run.above;
+    Moved {
+        now,
+        taken: end,
+        records: good,
+    }
+}

@@ -1,0 +1,7 @@
+pub mod Grown
+pub mod Rows
+pub mod Free
+pub mod Uncut
+pub mod Cuts
+pub mod All
+pub mod Room
