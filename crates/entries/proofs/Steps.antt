@@ -4,11 +4,11 @@
 use Prim.Native.Nat.{ℕ, zero, suc, _+_, _-_, _%_, _≤_, _<_, zero-le}
 use mathlib.Core.Path.{_≡_, refl, sym, ap, _∙_}
 use mathlib.Core.Bool.{Bool, true, false}
-use mathlib.Core.List.{List}
+use mathlib.Core.List.{List, [], _∷_}
 use native.Mathlib.Omega.{arith}
 use borrow.Author.Tests.{le-leb, lt-leb, lt-ltb, le-ltb, eq-eqb, ne-eqb, leb-true, eqb-true, eqb-false}
 use lib.Dec.{leb, ltb, eqb}
-use lib.ListN.{length}
+use lib.ListN.{length, getD}
 use Rattle.wire.specs.Bytes.{pick}
 use Rattle.wire.specs.Numbers.{limit}
 use Rattle.wire.proofs.Lengths.{split}
@@ -84,6 +84,16 @@ inside-small floor n t = go (leb n limit) refl t
     go : (l : Bool) → leb n limit ≡ l → pick l (leb floor n) false ≡ true → n ≤ limit
     go true e t = leb-true n limit e
     go false e t = let z : _≡_ {A = ℕ} 0 1 = cc in absurd (omega arith)
+
+-- the table of the oldest ages says the same as the test of the definition
+pub oldest-age : (status age : ℕ) → status ≤ 3 → age ≤ 18446744073709551615
+    → leb age (getD (18446744073709551615 ∷ 18446744073709551615 ∷ 0 ∷ 18446744073709551615 ∷ []) status 0) ≡ ageGood status age
+oldest-age zero age h f = le-leb age 18446744073709551615 f
+oldest-age (suc zero) age h f = le-leb age 18446744073709551615 f
+oldest-age (suc (suc zero)) zero h f = refl
+oldest-age (suc (suc zero)) (suc age) h f = lt-leb (suc age) 0 (omega arith) ∙ sym (ne-eqb (suc age) 0 (λ e. omega arith))
+oldest-age (suc (suc (suc zero))) age h f = le-leb age 18446744073709551615 f
+oldest-age (suc (suc (suc (suc n)))) age h f = absurd (omega arith)
 
 pub floor-small : (last above group floor : ℕ) → above ≤ suc limit → floor ≡ floorOf last above group → floor ≤ suc limit
 floor-small last above group floor h e = go (eqb group last) e

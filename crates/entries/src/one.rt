@@ -102,6 +102,9 @@ fn made(group: u64, object: u64, status: Status, age: u64) -> Entry
     }
 }
 
+// The oldest age that each of the four statuses may have. A table and no test, since no processor can foretell the status of a record.
+const OLDEST: [u64; 4] = [u64::MAX, u64::MAX, 0, u64::MAX];
+
 // Whether what comes behind the object number obeys its rule.
 pub(crate) fn rest_good(status: u64, zeros: u64, age: u64) -> bool
     ensures { λ r. ⌜ r ≡ restGood status zeros age ⌝ }
@@ -112,10 +115,8 @@ pub(crate) fn rest_good(status: u64, zeros: u64, age: u64) -> bool
     if 3 < status {
         return false;
     }
-    if status == 2 {
-        return age == 0;
-    }
-    true
+    let oldest = OLDEST[status as usize];
+    age <= oldest
 }
 
 // The entry that the fields of a record make. The rule of rest_good stands here by status, as an entry is made of each: with a call of it
