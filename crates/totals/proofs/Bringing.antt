@@ -16,7 +16,7 @@ use Rattle.report.specs.declared.Header.{Header}
 use Rattle.report.specs.declared.Report.{Report}
 use Rattle.report.specs.Header.{countOf, headerOf, emptyHeader}
 use Rattle.report.specs.Reader.{Reading, Whole, Stopped, readNumbers, partOf, judgeEntries, reportReading, reportOf, readReport, entriesIn, entriesOf}
-use Rattle.totals.specs.Totals.{longest, tooLong, statusCount}
+use Rattle.totals.specs.Totals.{longest, tooLong, statusCounts}
 use Rattle.totals.specs.Adding.{refusedBrings, acceptedBrings, brings}
 
 module _ (s : List ℕ) where
@@ -77,10 +77,10 @@ module _ (s : List ℕ) where
       brings-accepted h = rw (le-leb (length s) longest l, ← e, eq-eqb (r .refusal) 0 h)
 
   -- the four counts as the code found them
-  pub accepted-is : (h : Header) {a b c d : ℕ} → a ≡ statusCount 0 (entriesOf One s) → b ≡ statusCount 1 (entriesOf One s) → c ≡ statusCount 2 (entriesOf One s) → d ≡ statusCount 3 (entriesOf One s)
-      → record { number = 0; total = h .total; received = h .received; late = h .late; lost = h .lost; statuses = a ∷ b ∷ c ∷ d ∷ [] } ≡ acceptedBrings h (entriesOf One s)
+  pub accepted-is : (h : Header) {x : List ℕ} → x ≡ statusCounts (entriesOf One s)
+      → record { number = 0; total = h .total; received = h .received; late = h .late; lost = h .lost; statuses = x } ≡ acceptedBrings h (entriesOf One s)
   unfolding acceptedBrings
-  accepted-is h e f g k = rw (e, f, g, k)
+  accepted-is h e = rw e
 
   pub brings-long : longest < length s → refusedBrings tooLong ≡ brings s
   unfolding brings

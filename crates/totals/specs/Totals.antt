@@ -51,6 +51,10 @@ recordsWith status (suc n) s = one status (statusOf s) + recordsWith status n (d
 abbrev pub statusCount : ℕ → List ℕ → ℕ
 statusCount status s = recordsWith status (length s / recordSize One) s
 
+-- of each of the four
+abbrev pub statusCounts : List ℕ → List ℕ
+statusCounts s = statusCount 0 s ∷ statusCount 1 s ∷ statusCount 2 s ∷ statusCount 3 s ∷ []
+
 -- ---- what is counted, each in its place
 
 abbrev pub places : ℕ

@@ -2,7 +2,7 @@
 ghost use mathlib.Core.Path.{_≡_};
 ghost use Prim.Native.Nat.{_<_, _≤_};
 ghost use lib.ListN.{length};
-ghost use Rattle.totals.specs.Totals.{places, statusCount};
+ghost use Rattle.totals.specs.Totals.{longest, one, places, statusCounts};
 ghost use Rattle.totals.specs.Adding.{refusedBrings, brings, share, with, added};
 ghost use Rattle.totals.specs.Files.{withLong, reported};
 use crate::AT_ENTRIES;
@@ -22,20 +22,33 @@ use entries::RECORD;
 // Where the status stands in an entry record.
 const AT_STATUS: usize = 8;
 
-// How many of the records have the status.
-fn count_status(records: &[u8], status: u8) -> u64
-    ensures { λ r. ⌜ r ≡ statusCount status (now (records .entry)) ⌝ }
+// 1 where the status is the wanted one, else 0.
+fn one_if(status: u8, wanted: u8) -> u32
+    ensures { λ r. ⌜ r ≡ one wanted status ⌝ }
+{
+    if status == wanted { 1 } else { 0 }
+}
+
+// How many of the records have each status, in one walk. With counts of 32 bits a processor takes four records at a time.
+fn count_statuses(records: &[u8]) -> [u64; 4]
+    requires { ⌜ length (now records) ≤ longest ⌝ }
+    ensures { λ r. ⌜ r ≡ statusCounts (now (records .entry)) ⌝ }
 {
     let n = records.len() / RECORD;
-    let mut count: u64 = 0;
+    let mut received: u32 = 0;
+    let mut late: u32 = 0;
+    let mut lost: u32 = 0;
+    let mut partial: u32 = 0;
     let mut i: usize = 0;
     while i < n {
-        if records[i * RECORD + AT_STATUS] == status {
-            count += 1;
-        }
+        let status = records[i * RECORD + AT_STATUS];
+        received += one_if(status, 0);
+        late += one_if(status, 1);
+        lost += one_if(status, 2);
+        partial += one_if(status, 3);
         i += 1;
     }
-    count
+    [received as u64, late as u64, lost as u64, partial as u64]
 }
 
 impl Brought {
@@ -69,12 +82,7 @@ impl Brought {
         // The entries are the last of an accepted report.
         let start = report.len() - RECORD * header.entries as usize;
         let records = &report[start..];
-        let statuses = [
-            count_status(records, 0),
-            count_status(records, 1),
-            count_status(records, 2),
-            count_status(records, 3),
-        ];
+        let statuses = count_statuses(records);
         Brought {
             number: 0,
             total: header.total,

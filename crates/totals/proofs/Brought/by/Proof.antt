@@ -2,6 +2,7 @@
 -- Assumes nothing.
 use mathlib.Core.Path.{_∙_}
 use native.Mathlib.Omega.{arith}
+use lib.ListN.{length-take, length-drop}
 use Rattle.totals.proofs.Bringing.{entries-fit, entries-last, brings-refused, brings-accepted, brings-long, accepted-is}
 use borrow.Author.Needs.{needs}
 use Rattle.totals.proofs.Brought.by.Statement.{statement}
@@ -39,24 +40,14 @@ part-records-start c = search needs
 part-records-end : tie.Need-part-records-end
 part-records-end c = search needs
 
-count-status-requires : tie.Need-count-status-requires
-count-status-requires c κs = search needs
-
-count-status-requires-2 : tie.Need-count-status-requires-2
-count-status-requires-2 c κs = search needs
-
-count-status-requires-3 : tie.Need-count-status-requires-3
-count-status-requires-3 c κs = search needs
-
-count-status-requires-4 : tie.Need-count-status-requires-4
-count-status-requires-4 c κs = search needs
+count-statuses-requires : tie.Need-count-statuses-requires
+count-statuses-requires c κs = simp (length-take, length-drop) (omega arith)
 
 returns-3 : tie.Need-returns-3
 returns-3 c =
-    let r = c .before .before .before .before .before .before .before .before .read-report in
+    let r = c .before .before .before .before .before .read-report in
     let e = entries-last _ (r .ensures) in
-    accepted-is _ (r .result .header) (rw e at (c .before .before .before .count-status .ensures)) (rw e at (c .before .before .count-status2 .ensures)) (rw e at (c .before .count-status3 .ensures)) (rw e at (c .count-status4 .ensures))
-    ∙ brings-accepted _ (r .ensures) (omega arith) (omega arith)
+    accepted-is _ (r .result .header) (rw e at (c .count-statuses .ensures)) ∙ brings-accepted _ (r .ensures) (omega arith) (omega arith)
 
 pub by-spec : {M : Type 1} → statement M
 by-spec =
@@ -72,8 +63,5 @@ by-spec =
     sub-records
     part-records-start
     part-records-end
-    count-status-requires
-    count-status-requires-2
-    count-status-requires-3
-    count-status-requires-4
+    count-statuses-requires
     returns-3)
