@@ -57,7 +57,7 @@ pub const CAN_GIVE: [(&str, &[u64]); 52] = [
 ];
 
 /// What must have happened in accepted and refused calls beyond their results.
-pub const MOMENTS: [&str; 218] = [
+pub const MOMENTS: [&str; 205] = [
     "1 for nothing but a floor above L",
     "1 for nothing but a floor while nothing was received",
     "7 though it was received and lies within 1,024 of L",
@@ -198,19 +198,6 @@ pub const MOMENTS: [&str; 218] = [
     "a report of 1,000 bytes cut at every place",
     "a refused report cut at every place",
     "1 before 9",
-    "1 for nothing but another profile",
-    "1 for nothing but another stage",
-    "1 for nothing but more numbers than a header has",
-    "1 for nothing but more bytes carried than an entry has",
-    "1 for nothing but a number above 2^62 - 1",
-    "1 for nothing but the metric count",
-    "1 for a header that is whole already",
-    "1 for a number that is whole already",
-    "1 for an entry that is whole already",
-    "1 for more than 200 entries to come",
-    "1 for a last group above 2^62 - 1",
-    "1 for a last object above 2^62 - 1",
-    "1 for a refusal that no report is given",
     "1 for nothing but the last of the 256",
     "1 for nothing but the interval",
     "1 where no first arrival is named though one arrived",

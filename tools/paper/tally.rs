@@ -1,6 +1,7 @@
 //! What the comparisons with the archive share: one call, the count of the calls that agree, and memory to lend.
 
 use crate::archive::Answer;
+use crate::made_up_pieces::CLAUSES;
 use crate::moments::{CAN_GIVE, MOMENTS};
 use crate::random::Random;
 use crate::refusals::ACCEPTED;
@@ -20,6 +21,11 @@ pub struct Call<'a> {
     pub name: &'static str,
     pub result: u64,
     pub given: &'a dyn Debug,
+}
+
+/// The moments that must come: those of the list, and each clause of a report in pieces broken by itself.
+fn listed() -> impl Iterator<Item = &'static &'static str> {
+    MOMENTS.iter().chain(CLAUSES.iter())
 }
 
 impl Tally {
@@ -46,7 +52,7 @@ impl Tally {
     pub fn note(&mut self, moment: &'static str, is_one: bool) {
         if is_one {
             let count = self.moments.entry(moment).or_insert_with(|| {
-                assert!(MOMENTS.contains(&moment), "no moment of the list: {moment}");
+                assert!(listed().any(|known| *known == moment), "no moment of the list: {moment}");
                 0
             });
             *count += 1;
@@ -73,7 +79,7 @@ impl Tally {
         let mut missing: Vec<String> =
             expected.filter(|key| !self.results.contains_key(key)).map(|(name, result)| format!("{name} {result}")).collect();
         missing.extend((0..=5).filter(|cause| !self.causes.contains_key(cause)).map(|cause| format!("cause {cause}")));
-        missing.extend(MOMENTS.iter().filter(|moment| !self.moments.contains_key(*moment)).map(|moment| moment.to_string()));
+        missing.extend(listed().filter(|moment| !self.moments.contains_key(*moment)).map(|moment| moment.to_string()));
         if missing.is_empty() {
             return Ok(());
         }

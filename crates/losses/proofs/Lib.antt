@@ -6,3 +6,4 @@ pub mod Along
 pub mod Told
 pub mod Lists
 pub mod Answers
+pub mod Only
