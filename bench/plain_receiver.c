@@ -1,5 +1,5 @@
 /* The receiver by hand from document 01: the same answers and refusals as the archive, and no proof. */
-#include "plain_record.h"
+#include "plain_write.h"
 
 lumbixet_answer plain_open(uint64_t threshold, uint64_t reordering, uint64_t maximum_ms, uint64_t minimum_us)
 {
@@ -91,31 +91,8 @@ lumbixet_answer plain_confirm(lumbixet_receiver receiver, uint64_t largest)
 
 lumbixet_wrote plain_write(lumbixet_receiver receiver, uint64_t time_us, bool counts, uint8_t *buffer, size_t length)
 {
-    const uint64_t tail[3] = {receiver.total_ect0, receiver.total_ect1, receiver.total_ce};
-    size_t tail_bytes = counts ? width(tail[0]) + width(tail[1]) + width(tail[2]) : 0;
-    uint64_t result = LUMBIXET_ACCEPTED;
-    uint64_t delay = less(time_us, receiver.arrived) / 8;
-    struct ranges ranges;
-    if (!consistent(&receiver))
-        result = LUMBIXET_INCONSISTENT;
-    else if (time_us > LARGEST)
-        result = LUMBIXET_TOO_LARGE;
-    else if (receiver.end == 0)
-        result = LUMBIXET_NOTHING_YET;
-    else if (!collect(receiver.window, place_of(&receiver, receiver.confirmed),
-                      1 + width(receiver.end - 1) + width(delay) + tail_bytes, length, &ranges))
-        result = LUMBIXET_NO_ROOM;
-    if (result)
-        return (lumbixet_wrote){result, 0, receiver};
-    uint8_t *p = store(store(store(buffer, counts ? ACK_WITH_COUNTS : ACK), receiver.end - 1), delay);
-    p = store(store(p, ranges.count), ranges.first);
-    for (uint64_t i = 0; i < 2 * ranges.count; i++)
-        p = store(p, ranges.pairs[i]);
-    for (int i = 0; i < (counts ? 3 : 0); i++)
-        p = store(p, tail[i]);
-    receiver.acknowledged = receiver.end;
-    receiver.pending_end = 0;
-    receiver.pending_count = 0;
-    receiver.cause = LUMBIXET_NOT_DUE;
-    return (lumbixet_wrote){LUMBIXET_ACCEPTED, (uint64_t)(p - buffer), receiver};
+    uint64_t written, result = put_ack(&receiver, time_us, counts, buffer, length, &written);
+    if (result == LUMBIXET_ACCEPTED)
+        settle(&receiver);
+    return (lumbixet_wrote){result, written, receiver};
 }

@@ -1,4 +1,4 @@
-/* The record by hand from document 01: when it is consistent, what a packet changes in place, and the ranges of an ACK.
+/* The record by hand from document 01: when it is consistent, and what a packet changes in place.
  * The calls by value work on a copy of their own, those on a lent record on the host's. */
 #ifndef PLAIN_RECORD_H
 #define PLAIN_RECORD_H
@@ -135,41 +135,6 @@ static inline uint64_t take_packet(lumbixet_receiver *r, uint64_t number, uint64
             r->cause = LUMBIXET_CONGESTION;
     }
     return LUMBIXET_ACCEPTED;
-}
-
-/* The fields of an ACK frame behind its range count: the first range, then gap and length pairs. */
-struct ranges {
-    uint64_t count; /* of the ranges after the first */
-    uint16_t first;
-    uint16_t pairs[PLACES];
-};
-
-/* Collects as many newest ranges from place `least` up as fit the room beside `bytes` other bytes; false where not even
- * the first does. A run that goes on below `least` is cut off there. */
-static inline bool collect(const uint64_t *words, uint64_t least, size_t bytes, size_t room, struct ranges *ranges)
-{
-    uint64_t low = larger(PLACES - run_below(words, PLACES, true), least);
-    uint64_t size = PLACES - low;
-    ranges->first = (uint16_t)(size - 1);
-    ranges->count = 0;
-    bytes += width(size - 1);
-    if (room < bytes + 1)
-        return false;
-    while (low > least) {
-        uint64_t gap = run_below(words, low, false);
-        if (gap >= low - least)
-            break;
-        uint64_t next = larger(low - gap - run_below(words, low - gap, true), least);
-        size = low - gap - next;
-        bytes += width(gap - 1) + width(size - 1);
-        if (room < bytes + width(ranges->count + 1))
-            break;
-        ranges->pairs[2 * ranges->count] = (uint16_t)(gap - 1);
-        ranges->pairs[2 * ranges->count + 1] = (uint16_t)(size - 1);
-        ranges->count++;
-        low = next;
-    }
-    return true;
 }
 
 #endif
