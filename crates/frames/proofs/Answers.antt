@@ -14,7 +14,6 @@ use Rattle.wire.proofs.Reading.{stop, next, yes}
 use Rattle.frames.specs.Ack.{rangesFrom, readTail, readRest, AckRead, afterRest, readRanges, checkedRest}
 use Rattle.frames.specs.declared.Tail.{Tail}
 use Rattle.frames.specs.declared.Tail.the-variants.{Nothing, Counts}
-use Rattle.frames.specs.declared.Walk.{Walk}
 use Rattle.frames.specs.declared.Ending.{Ending}
 use Rattle.frames.specs.declared.Ending.the-variants.{Whole, Ends, BelowZero}
 use Rattle.frames.specs.declared.Ack.{Ack}
@@ -23,10 +22,6 @@ use Rattle.frames.specs.declared.Ack.the-variants.{Frame}
 -- an equation of the two is one of each
 pub both : {a : Ack} {ys : List ℕ} {x : AckRead} → record { answer = a; slice = ys } ≡ x → (a ≡ x .answer) × (ys ≡ x .slice)
 both e = (ap (λ (r : AckRead). r .answer) e, ap (λ (r : AckRead). r .slice) e)
-
--- what comes after a walk that ended as u
-pub rest-so : (counted : Bool) (s : List ℕ) {u v w : Walk} → u ≡ v → u ≡ w → readRest counted s v ≡ readRest counted s w
-rest-so counted s t e = ap (readRest counted s) (sym t ∙ e)
 
 -- what a frame's numbers come to after an ending u
 pub checked-so : (at largest delay count : ℕ) {u v w : Ending} → u ≡ v → u ≡ w → checkedRest at largest delay count v ≡ checkedRest at largest delay count w

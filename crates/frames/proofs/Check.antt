@@ -12,7 +12,7 @@ use Rattle.wire.specs.Bytes.{splice}
 use Rattle.wire.specs.Numbers.{readNumber}
 use Rattle.wire.proofs.Reading.{yes, no}
 use Rattle.frames.specs.Types.{countsType, isAck}
-use Rattle.frames.specs.Ack.{rangesFrom, readRange, IsWhole, readTail, readRest, AckRead, refused, afterRest, readRanges, readAck, checkedRest, checkRanges, checkAck, afterCheck}
+use Rattle.frames.specs.Ack.{rangesFrom, readRange, IsWhole, Filled, readTail, readRest, AckRead, refused, afterRest, readRanges, readHeader, readAck, checkedRest, checkRanges, checkAck, Kept, afterCheck}
 use Rattle.frames.specs.EachWay.{CheckThenRoom, RangeByRange}
 use Rattle.frames.specs.declared.Walk.{Walk}
 use Rattle.frames.specs.declared.Walk.the-variants.{Whole, Ends, BelowZero}
@@ -22,6 +22,8 @@ use Rattle.frames.specs.declared.Tail.{Tail}
 use Rattle.frames.specs.declared.Ending.{Ending}
 use Rattle.frames.specs.declared.Ending.the-variants.{Whole as Ended, Ends as Stops, BelowZero as Low}
 use Rattle.frames.specs.declared.Ack.the-variants.{Frame, NoRoom}
+use Rattle.frames.specs.declared.Header.{Header}
+use Rattle.frames.specs.declared.Header.the-variants.{Numbers, Ends as HeaderEnds, OtherType as HeaderOther}
 use Rattle.frames.specs.declared.Checked.{Checked}
 use Rattle.frames.specs.declared.Checked.the-variants.{Frame as CheckedFrame, Ends as CheckedEnds, OtherType as CheckedOther, BelowZero as CheckedLow}
 use Rattle.frames.proofs.Steps.{formed-both, field-both, pick-both, step-cut, step-low, step-last, step-more}
@@ -54,6 +56,49 @@ check-then-room s xs =
   where
     Same : AckRead → Checked → Type 0
     Same r k = r ≡ afterCheck s k xs
+
+-- ---- the check is the numbers before the ranges, then the ranges
+
+abbrev pub afterHeader : List ℕ → Header → Checked
+afterHeader s HeaderEnds = CheckedEnds
+afterHeader s HeaderOther = CheckedOther
+afterHeader s (Numbers largest delay count at counted) = checkRanges s at largest delay count counted
+
+header-then-ranges : (s : List ℕ) → checkAck s ≡ afterHeader s (readHeader s)
+header-then-ranges s =
+    formed-both Same (readNumber s 0) refl (λ kind at0 shortest.
+    pick-both Same (isAck kind)
+    (pick-both Same shortest
+    (field-both Same (readNumber s at0) refl (λ largest at1.
+    field-both Same (readNumber s at1) refl (λ delay at2.
+    field-both Same (readNumber s at2) refl (λ count at3. refl))))
+    refl)
+    refl)
+  where
+    Same : Checked → Header → Type 0
+    Same k h = k ≡ afterHeader s h
+
+kept-rest : (s : List ℕ) (at largest delay count : ℕ) (xs ys : List ℕ) (u : Ending) → Filled count s at largest xs ys → Kept s (checkedRest at largest delay count u) xs ys
+kept-rest s at largest delay count xs ys Stops f = tt
+kept-rest s at largest delay count xs ys Low f = tt
+kept-rest s at largest delay count xs ys (Ended tail used) f = f
+
+-- h is what reading the numbers answers
+module _ (s : List ℕ) {h : Header} (e : h ≡ readHeader s) where
+  pub headed : {v : Header} → h ≡ v → afterHeader s v ≡ checkAck s
+  headed t = ap (afterHeader s) (sym t ∙ e) ∙ sym (header-then-ranges s)
+
+  module _ {largest delay count at : ℕ} {counted : Bool} (t : h ≡ Numbers largest delay count at counted) {r : Checked} where
+    -- w is how the walk ended
+    pub headed-walk : {w : Walk} → w ≡ rangesFrom count s at largest .walk → r ≡ checkedRest at largest delay count (readRest counted s w) → r ≡ checkAck s
+    headed-walk d f = f ∙ ap (λ (v : Walk). checkedRest at largest delay count (readRest counted s v)) d ∙ headed t
+
+    pub headed-kept : (xs ys : List ℕ) → r ≡ checkAck s → Filled count s at largest xs ys → Kept s r xs ys
+    headed-kept xs ys q f =
+        subst (λ (v : Checked). Kept s v xs ys) (headed t ∙ sym q)
+        (kept-rest s at largest delay count xs ys (readRest counted s (rangesFrom count s at largest .walk)) f)
+
+-- ---- reading a checked frame
 
 -- k is what the check answers
 module _ (s xs : List ℕ) {k : Checked} (e : k ≡ checkAck s) where

@@ -15,7 +15,7 @@ use Rattle.wire.specs.Numbers.{readNumber}
 use Rattle.wire.specs.declared.Number.{Number}
 use Rattle.wire.specs.declared.Number.the-variants.{Value, Ends as Stops}
 use Rattle.frames.specs.Types.{countsType, isAck}
-use Rattle.frames.specs.Ack.{Ranges, ended, before, below, rangesFrom, readTail, readRest, AckRead, refused, afterRest, readRanges, readAck}
+use Rattle.frames.specs.Ack.{Ranges, ended, before, below, rangesFrom, IsWhole, readTail, readRest, AckRead, refused, afterRest, readRanges, readAck}
 use Rattle.frames.specs.Refusals.{ackRefusal}
 use Rattle.frames.specs.Exactly.{AckUnchanged, AckLater}
 use Rattle.frames.specs.declared.Walk.{Walk}
@@ -67,6 +67,15 @@ paired (suc left) s at high =
     (field-all (Paired (suc left)) (readNumber s mid) (cut-paired (suc left)) (λ gap next.
     pick-all (Paired (suc left)) (leb (gap + 2) (high - len)) (paired left s next (high - len - gap - 2)) (low-paired (suc left)))))
     (low-paired (suc (suc left))))
+
+pub whole-length : (left : ℕ) (s : List ℕ) (at high : ℕ) → IsWhole (rangesFrom left s at high .walk) → length (rangesFrom left s at high .pairs) ≡ 2 * (left + 1)
+unfolding Paired
+whole-length left s at high = go (rangesFrom left s at high .walk) (paired left s at high)
+  where
+    go : (w : Walk) → ((used : ℕ) → w ≡ Whole used → length (rangesFrom left s at high .pairs) ≡ 2 * suc left) → IsWhole w → length (rangesFrom left s at high .pairs) ≡ 2 * (left + 1)
+    go (Whole used) p h = omega (arith, p used refl)
+    go Ends p h = absurd h
+    go BelowZero p h = absurd h
 
 -- ---- the slice
 

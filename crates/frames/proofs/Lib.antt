@@ -6,6 +6,7 @@ pub mod Check
 pub mod Back
 pub mod Shortest
 pub mod Accepted
+pub mod Few
 pub mod Rows
 pub mod Exactly
 pub mod CheckRows

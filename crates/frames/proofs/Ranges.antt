@@ -1,21 +1,21 @@
--- How a walk over ranges follows its definition, a step for each field and each test, and how two stores a turn make one splice.
+-- How a walk over ranges that are there follows its definition, and how two stores a turn make one splice.
 -- Assumes nothing.
 use Prim.Native.Nat.{ℕ, zero, suc, _+_, _-_, _≤_, _<_}
 use mathlib.Core.Path.{_≡_, refl, sym, ap, _∙_}
 use mathlib.Core.Bool.{Bool}
 use mathlib.Core.List.{List, [], _∷_}
 use native.Mathlib.Omega.{arith}
-use borrow.Author.Tests.{le-leb, lt-leb}
+use borrow.Author.Tests.{le-leb}
 use lib.ListN.{length, set, length-set}
 use Rattle.wire.specs.Bytes.{splice}
 use Rattle.wire.specs.Numbers.{readNumber}
 use Rattle.wire.specs.declared.Number.{Number}
-use Rattle.wire.specs.declared.Number.the-variants.{Value, Ends as Stops}
+use Rattle.wire.specs.declared.Number.the-variants.{Value}
 use Rattle.wire.proofs.Bytes.{store, splice-none}
-use Rattle.wire.proofs.Reading.{stop, next, yes, no}
+use Rattle.wire.proofs.Reading.{next, yes}
 use Rattle.frames.specs.Ack.{Ranges, ended, before, range, below, rangesFrom}
 use Rattle.frames.specs.declared.Walk.{Walk}
-use Rattle.frames.specs.declared.Walk.the-variants.{Whole, Ends, BelowZero}
+use Rattle.frames.specs.declared.Walk.the-variants.{Whole}
 
 -- ---- the walk
 
@@ -36,13 +36,7 @@ some h = omega arith
 
 -- n is what reading the length answers
 module _ (left : ℕ) (s : List ℕ) (at high : ℕ) {n : Number} (e : n ≡ readNumber s at) where
-  pub length-cut : n ≡ Stops → ended Ends ≡ rangesFrom left s at high
-  length-cut t = rw one-rule (stop _ _ t e)
-
   module _ {len mid : ℕ} {b : Bool} (t : n ≡ Value len mid b) where
-    pub length-low : high < len → ended BelowZero ≡ rangesFrom left s at high
-    length-low h = rw one-rule (next _ _ t e (no _ _ (lt-leb len high h) refl))
-
     -- r is what comes after the range
     length-in : (r : Ranges) → len ≤ high → r ≡ after left s (high - len) mid → before (high - len) high r ≡ rangesFrom left s at high
     length-in r h g = rw one-rule (next _ _ t e (yes _ _ (le-leb len high h) (ap (before (high - len) high) g)))
@@ -57,12 +51,6 @@ module _ (left : ℕ) (s : List ℕ) (at high : ℕ) {n : Number} (e : n ≡ rea
       unfolding after
       some-left g = let k : left ≡ suc (left - 1) = omega arith in rw k g
 
-      pub gap-cut : m ≡ Stops → before (high - len) high (ended Ends) ≡ rangesFrom left s at high
-      gap-cut u = length-in (ended Ends) h (some-left (stop _ _ u f))
-
-      pub gap-low : {gap to : ℕ} {short : Bool} → m ≡ Value gap to short → high - len < gap + 2 → before (high - len) high (ended BelowZero) ≡ rangesFrom left s at high
-      gap-low {gap} u l = length-in (ended BelowZero) h (some-left (next _ _ u f (no _ _ (lt-leb (gap + 2) (high - len) l) refl)))
-
       pub more : {gap to : ℕ} {short : Bool} → m ≡ Value gap to short → gap + 2 ≤ high - len
           → before (high - len) high (rangesFrom (left - 1) s to (high - len - gap - 2)) ≡ rangesFrom left s at high
       more {gap} u l = length-in _ h (some-left (next _ _ u f (yes _ _ (le-leb (gap + 2) (high - len) l) refl)))
@@ -76,9 +64,6 @@ store-range xs ps i a b h =
 
 -- ys is the whole: xs with the ranges r, which are still to write, from i on
 module _ (xs : List ℕ) (i : ℕ) {r : Ranges} {ys : List ℕ} (whole : splice xs i (r .pairs) ≡ ys) where
-  pub wrote-none : {w : Walk} → ended w ≡ r → xs ≡ ys
-  wrote-none e = sym (splice-none xs i) ∙ ap (λ (q : Ranges). splice xs i (q .pairs)) e ∙ whole
-
   pub wrote-range : {a b : ℕ} {q : Ranges} → before a b q ≡ r → i + 2 ≤ length xs → splice (set (set xs i a) (i + 1) b) (i + 2) (q .pairs) ≡ ys
   wrote-range {a} {b} {q} e h = store-range xs (q .pairs) i a b h ∙ ap (λ (q : Ranges). splice xs i (q .pairs)) e ∙ whole
 

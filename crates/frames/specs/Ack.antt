@@ -1,5 +1,6 @@
 -- "Three frames": ACK (RFC 9000 section 19.3), its ranges, the counts after them (02, No. 2), and the lent slice that the ranges are written to.
 use Prim.Native.Nat.{ℕ, zero, suc, _+_, _-_, _*_, _/_, _≤_}
+use mathlib.Core.Path.{_≡_}
 use mathlib.Core.Bool.{Bool, true, false}
 use mathlib.Core.List.{List, [], _∷_, _++_}
 use lib.Dec.{leb, eqb}
@@ -17,6 +18,8 @@ use Rattle.frames.specs.declared.Ending.{Ending}
 use Rattle.frames.specs.declared.Ending.the-variants.{Whole as Ended, Ends as Stops, BelowZero as Low}
 use Rattle.frames.specs.declared.Ack.{Ack}
 use Rattle.frames.specs.declared.Ack.the-variants.{Frame, Ends as Cut, OtherType, BelowZero as Below, NoRoom}
+use Rattle.frames.specs.declared.Header.{Header}
+use Rattle.frames.specs.declared.Header.the-variants.{Numbers, Ends as HeaderEnds, OtherType as HeaderOther}
 use Rattle.frames.specs.declared.Checked.{Checked}
 use Rattle.frames.specs.declared.Checked.the-variants.{Frame as CheckedFrame, Ends as CheckedEnds, OtherType as CheckedOther, BelowZero as CheckedLow}
 use Rattle.frames.specs.Types.{ackType, countsType, ackTypes, typed}
@@ -77,6 +80,11 @@ IsWhole (Whole used) = Unit
 IsWhole Ends = ⊥
 IsWhole BelowZero = ⊥
 
+-- ys is xs with the ranges of a whole walk, where xs has room for all of them
+abbrev pub Filled : ℕ → List ℕ → ℕ → ℕ → List ℕ → List ℕ → Type 0
+Filled count s at largest xs ys =
+    IsWhole (rangesFrom count s at largest .walk) → 2 * (count + 1) ≤ length xs → ys ≡ splice xs 0 (rangesFrom count s at largest .pairs)
+
 -- ---- what comes after the ranges: nothing for type 02, and "then three ECN counts" for type 03 (02, No. 2)
 
 -- "ECT0 Count (i), ECT1 Count (i), ECN-CE Count (i)" (RFC 9000 section 19.3.2)
@@ -128,6 +136,10 @@ ackFields s cut other f =
     field (readNumber s at2) cut (λ count at3.
     f at3 largest delay count (eqb kind countsType)))))
 
+-- those fields by themselves
+abbrev pub readHeader : List ℕ → Header
+readHeader s = ackFields s HeaderEnds HeaderOther (λ at largest delay count counted. Numbers largest delay count at counted)
+
 -- then the ranges; type 03 has "the same fields, then three ECN counts"
 abbrev pub readAck : List ℕ → List ℕ → AckRead
 readAck s xs =
@@ -147,6 +159,13 @@ checkRanges s at largest delay count counted =
 
 abbrev pub checkAck : List ℕ → Checked
 checkAck s = ackFields s CheckedEnds CheckedOther (checkRanges s)
+
+-- the ranges of a frame that is not refused are in ys
+abbrev pub Kept : List ℕ → Checked → List ℕ → List ℕ → Type 0
+Kept s CheckedEnds xs ys = Unit
+Kept s CheckedOther xs ys = Unit
+Kept s CheckedLow xs ys = Unit
+Kept s (CheckedFrame largest delay at count used tail) xs ys = Filled count s at largest xs ys
 
 -- the whole frame is checked, then the room is judged
 abbrev pub afterCheck : List ℕ → Checked → List ℕ → AckRead

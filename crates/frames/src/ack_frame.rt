@@ -1,14 +1,17 @@
 // ACK: read, and its ranges written to a lent slice.
 ghost use mathlib.Core.Path.{_≡_};
+ghost use Prim.Native.Nat.{_+_, _*_, _≤_, _<_};
+ghost use lib.ListN.{length, take};
+ghost use Rattle.wire.specs.Bytes.{splice};
 ghost use Rattle.frames.specs.Types.{isAck};
-ghost use Rattle.frames.specs.Ack.{rangesFrom, readTail, readRest, readAck, checkRanges, checkAck};
+ghost use Rattle.frames.specs.Ack.{rangesFrom, IsWhole, Kept, readTail, readRest, readHeader, readAck, checkedRest, checkAck};
 use crate::Ack;
 use crate::Checked;
 use crate::Ending;
+use crate::Header;
 use crate::Tail;
 use crate::Walk;
-use crate::ack_ranges::check_ranges;
-use crate::ack_ranges::fill_ranges;
+use crate::ack_ranges::walk_ranges;
 use wire::Number;
 
 // Its type, and its type with counts.
@@ -65,11 +68,10 @@ fn read_tail(s: &[u8], at: usize, counted: bool) -> Ending
     }
 }
 
-// Reads the ranges and what comes after them, and writes nothing.
-fn check_rest(s: &[u8], at: usize, largest: u64, count: u64, counted: bool) -> Ending
-    ensures { λ r. ⌜ r ≡ readRest counted (now (s .entry)) (rangesFrom count (now (s .entry)) at largest .walk) ⌝ }
+// What comes after a walk over the ranges.
+fn read_rest(s: &[u8], walk: Walk, counted: bool) -> Ending
+    ensures { λ r. ⌜ r ≡ readRest counted (now (s .entry)) walk ⌝ }
 {
-    let walk = check_ranges(s, at, largest, count);
     match walk {
         Walk::Ends => Ending::Ends,
         Walk::BelowZero => Ending::BelowZero,
@@ -77,18 +79,70 @@ fn check_rest(s: &[u8], at: usize, largest: u64, count: u64, counted: bool) -> E
     }
 }
 
-// What the ranges and what comes after them make of a frame's numbers.
+// Reads the numbers that stand before the ranges. It ends in one answer, so that the compiler takes what comes after it in line.
+fn read_header(s: &[u8]) -> Header
+    ensures { λ r. ⌜ r ≡ readHeader (now (s .entry)) ⌝ }
+{
+    let Number::Value {
+        value: kind,
+        next: at0,
+        shortest,
+    } = wire::read_number(s, 0)
+    else {
+        return Header::Ends;
+    };
+    if !is_ack(kind) {
+        return Header::OtherType;
+    }
+    if !shortest {
+        return Header::OtherType;
+    }
+    let Number::Value {
+        value: largest,
+        next: at1,
+        ..
+    } = wire::read_number(s, at0)
+    else {
+        return Header::Ends;
+    };
+    let Number::Value {
+        value: delay,
+        next: at2,
+        ..
+    } = wire::read_number(s, at1)
+    else {
+        return Header::Ends;
+    };
+    let Number::Value {
+        value: count,
+        next: at,
+        ..
+    } = wire::read_number(s, at2)
+    else {
+        return Header::Ends;
+    };
+    Header::Numbers {
+        largest,
+        delay,
+        count,
+        at,
+        counted: kind == ACK_COUNTS,
+    }
+}
+
+// What a walk over the ranges and what comes after them make of a frame's numbers.
 fn check_numbers(
     s: &[u8],
+    walk: Walk,
     at: usize,
     largest: u64,
     delay: u64,
     count: u64,
     counted: bool,
 ) -> Checked
-    ensures { λ r. ⌜ r ≡ checkRanges (now (s .entry)) at largest delay count counted ⌝ }
+    ensures { λ r. ⌜ r ≡ checkedRest at largest delay count (readRest counted (now (s .entry)) walk) ⌝ }
 {
-    let ending = check_rest(s, at, largest, count, counted);
+    let ending = read_rest(s, walk, counted);
     match ending {
         Ending::Ends => Checked::Ends,
         Ending::BelowZero => Checked::BelowZero,
@@ -103,57 +157,67 @@ fn check_numbers(
     }
 }
 
+// Checks a whole frame (2, 3, 14), and keeps its ranges where the slice has room for all of them.
+fn check_frame(s: &[u8], ranges: &mut [u64]) -> Checked
+    ensures { λ r. ⌜ (r ≡ checkAck (now (s .entry))) × Kept (now (s .entry)) r (now (ranges .entry)) (now (ranges .exit)) ⌝ }
+{
+    let header = read_header(s);
+    match header {
+        Header::Ends => Checked::Ends,
+        Header::OtherType => Checked::OtherType,
+        Header::Numbers {
+            largest,
+            delay,
+            count,
+            at,
+            counted,
+        } => {
+            let walk = walk_ranges(ranges, s, at, largest, count);
+            check_numbers(s, walk, at, largest, delay, count, counted)
+        }
+    }
+}
+
 // Checks the ACK frame that s starts with (2, 3, 14), and writes nothing.
 // Its ranges are then read one by one, by read_range from at on.
 pub fn check_ack(s: &[u8]) -> Checked
     ensures { λ r. ⌜ r ≡ checkAck (now (s .entry)) ⌝ }
 {
-    let Number::Value {
-        value: kind,
-        next: at0,
-        shortest,
-    } = wire::read_number(s, 0)
-    else {
-        return Checked::Ends;
-    };
-    if !is_ack(kind) {
-        return Checked::OtherType;
+    let mut nothing = [0u64; 0];
+    check_frame(s, &mut nothing)
+}
+
+// Copies the first n elements.
+fn copy_first(ranges: &mut [u64], few: &[u64; 16], n: usize)
+    requires { ⌜ (n ≤ 16) × (n ≤ length (now few)) × (n ≤ length (now ranges)) ⌝ }
+    ensures { λ r. ⌜ now (ranges .exit) ≡ splice (now (ranges .entry)) 0 (take n (now (few .entry))) ⌝ }
+{
+    let mut i: usize = 0;
+    while i < n {
+        ranges[i] = few[i];
+        i += 1;
     }
-    if !shortest {
-        return Checked::OtherType;
+}
+
+// Writes the ranges of a checked frame: by a copy where they are so few that the check kept them, else by a second walk.
+fn write_ranges(ranges: &mut [u64], few: &[u64; 16], s: &[u8], at: usize, largest: u64, count: u64)
+    requires { ⌜ IsWhole (rangesFrom count (now s) at largest .walk) × (2 * (count + 1) ≤ length (now ranges)) × (count < 8 → take (2 * (count + 1)) (now few) ≡ rangesFrom count (now s) at largest .pairs) ⌝ }
+    ensures { λ r. ⌜ now (ranges .exit) ≡ splice (now (ranges .entry)) 0 (rangesFrom count (now (s .entry)) at largest .pairs) ⌝ }
+{
+    if count < 8 {
+        copy_first(ranges, few, 2 * (count as usize + 1));
+        return;
     }
-    let Number::Value {
-        value: largest,
-        next: at1,
-        ..
-    } = wire::read_number(s, at0)
-    else {
-        return Checked::Ends;
-    };
-    let Number::Value {
-        value: delay,
-        next: at2,
-        ..
-    } = wire::read_number(s, at1)
-    else {
-        return Checked::Ends;
-    };
-    let Number::Value {
-        value: count,
-        next: at3,
-        ..
-    } = wire::read_number(s, at2)
-    else {
-        return Checked::Ends;
-    };
-    check_numbers(s, at3, largest, delay, count, kind == ACK_COUNTS)
+    walk_ranges(ranges, s, at, largest, count);
 }
 
 // Reads the ACK frame that s starts with, and writes its ranges to the lent slice: the whole frame is checked before the room is judged (9).
 pub fn read_ack(s: &[u8], ranges: &mut [u64]) -> Ack
     ensures { λ r. ⌜ (r ≡ readAck (now (s .entry)) (now (ranges .entry)) .answer) × (now (ranges .exit) ≡ readAck (now (s .entry)) (now (ranges .entry)) .slice) ⌝ }
 {
-    let checked = check_ack(s);
+    // The check keeps eight ranges, which most frames have at most: they need no second walk.
+    let mut few = [0u64; 16];
+    let checked = check_frame(s, &mut few);
     match checked {
         Checked::Ends => Ack::Ends,
         Checked::OtherType => Ack::OtherType,
@@ -171,7 +235,7 @@ pub fn read_ack(s: &[u8], ranges: &mut [u64]) -> Ack
             if pairs <= count {
                 return Ack::NoRoom;
             }
-            fill_ranges(ranges, s, at, largest, count);
+            write_ranges(ranges, &few, s, at, largest, count);
             Ack::Frame {
                 largest,
                 delay,

@@ -1,10 +1,8 @@
-// The ranges of an ACK frame: one step over them, for a caller who walks himself, and the walks of the reader.
-// The reader's walks have the step in line, since a call for each range made reading dearer; all three go by one definition.
+// The ranges of an ACK frame: one step over them, and the walk that the reader goes by it.
 ghost use mathlib.Core.Path.{_≡_};
-ghost use Prim.Native.Nat.{_+_, _*_, _≤_};
-ghost use lib.ListN.{length};
-ghost use Rattle.wire.specs.Bytes.{splice};
-ghost use Rattle.frames.specs.Ack.{rangesFrom, readRange};
+ghost use Prim.Native.Nat.{_+_, _≤_};
+ghost use lib.ListN.{length, set};
+ghost use Rattle.frames.specs.Ack.{rangesFrom, readRange, Filled};
 use crate::Range;
 use crate::Walk;
 use wire::Number;
@@ -51,89 +49,52 @@ pub fn read_range(s: &[u8], at: usize, largest: u64, left: u64) -> Range
     }
 }
 
-// Walks over a first range whose largest is given and count ranges after it, and writes nothing.
+// Stores a range at i and gives the place after it, where the slice has room for it.
+fn put_range(ranges: &mut [u64], i: usize, smallest: u64, largest: u64) -> usize
+    requires { ⌜ i ≤ length (now ranges) ⌝ }
+    ensures { λ r. ⌜ (length (now (ranges .exit)) ≡ length (now (ranges .entry))) × (r ≤ length (now (ranges .entry))) × (i + 2 ≤ length (now (ranges .entry)) → (r ≡ i + 2) × (now (ranges .exit) ≡ set (set (now (ranges .entry)) i smallest) (i + 1) largest)) ⌝ }
+{
+    if ranges.len() - i < 2 {
+        return i;
+    }
+    ranges[i] = smallest;
+    ranges[i + 1] = largest;
+    i + 2
+}
+
+// Walks over a first range whose largest is given and count ranges after it, and writes them where the slice has room for all: smallest before largest, newest range first.
 // A turn takes two bytes or more, so the bytes and not the count bound its time.
-pub(crate) fn check_ranges(s: &[u8], at: usize, largest: u64, count: u64) -> Walk
-    ensures { λ r. ⌜ r ≡ rangesFrom count (now (s .entry)) at largest .walk ⌝ }
+// How many are left is told by a difference, and the last range stored by itself: so the compiler takes the step in line and asks once which is the last.
+pub(crate) fn walk_ranges(ranges: &mut [u64], s: &[u8], at: usize, largest: u64, count: u64) -> Walk
+    ensures { λ r. ⌜ (r ≡ rangesFrom count (now (s .entry)) at largest .walk) × Filled count (now (s .entry)) at largest (now (ranges .entry)) (now (ranges .exit)) ⌝ }
 {
     let mut high = largest;
     let mut place = at;
-    let mut left = count;
-    loop {
-        let Number::Value {
-            value: len,
-            next,
-            ..
-        } = wire::read_number(s, place)
-        else {
-            return Walk::Ends;
-        };
-        if high < len {
-            return Walk::BelowZero;
-        }
-        if left == 0 {
-            return Walk::Whole { used: next };
-        }
-        let low = high - len;
-        let Number::Value {
-            value: gap,
-            next: after,
-            ..
-        } = wire::read_number(s, next)
-        else {
-            return Walk::Ends;
-        };
-        if low < gap + 2 {
-            return Walk::BelowZero;
-        }
-        high = low - gap - 2;
-        place = after;
-        left -= 1;
-    }
-}
-
-// Writes the ranges that check_ranges walks over, smallest before largest, newest range first.
-// Faults are found by check_ranges; here they only end the loop.
-pub(crate) fn fill_ranges(ranges: &mut [u64], s: &[u8], at: usize, first: u64, count: u64)
-    requires { ⌜ 2 * (count + 1) ≤ length (now ranges) ⌝ }
-    ensures { λ r. ⌜ now (ranges .exit) ≡ splice (now (ranges .entry)) 0 (rangesFrom count (now (s .entry)) at first .pairs) ⌝ }
-{
-    let mut largest = first;
-    let mut place = at;
-    let mut left = count;
+    let mut passed: u64 = 0;
     let mut i: usize = 0;
     loop {
-        let Number::Value {
-            value: len,
-            next,
-            ..
-        } = wire::read_number(s, place)
-        else {
-            return;
-        };
-        if largest < len {
-            return;
+        let range = read_range(s, place, high, count - passed);
+        match range {
+            Range::Ends => {
+                return Walk::Ends;
+            }
+            Range::BelowZero => {
+                return Walk::BelowZero;
+            }
+            Range::Of {
+                smallest,
+                below,
+                next,
+            } => {
+                if passed == count {
+                    put_range(ranges, i, smallest, high);
+                    return Walk::Whole { used: next };
+                }
+                i = put_range(ranges, i, smallest, high);
+                high = below;
+                place = next;
+                passed += 1;
+            }
         }
-        let smallest = largest - len;
-        ranges[i] = smallest;
-        ranges[i + 1] = largest;
-        if left == 0 {
-            return;
-        }
-        let Number::Value {
-            value: gap,
-            next: after,
-            ..
-        } = wire::read_number(s, next)
-        else {
-            return;
-        };
-        if smallest < gap + 2 {
-            return;
-        }
-        largest = smallest - gap - 2;
-        place = after;
-        left -= 1;
-        i += 2;
     }
 }

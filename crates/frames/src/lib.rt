@@ -84,6 +84,19 @@ pub enum Range {
     BelowZero,
 }
 
+// What stands before a frame's ranges.
+enum Header {
+    Numbers {
+        largest: u64,
+        delay: u64,
+        count: u64,
+        at: usize,
+        counted: bool,
+    },
+    Ends,
+    OtherType,
+}
+
 // How a walk over a frame's ranges ends: at the place after them, or by their first fault.
 enum Walk {
     Whole { used: usize },

@@ -1,14 +1,14 @@
--- `frames::ack_frame::check_ack` meets its contract: one step of the definition for each field and each test, then what its ranges make of it.
+-- `frames::ack_frame::read_header` meets its contract: one step of the definition for each field and each test.
 -- Assumes nothing.
-use mathlib.Core.Path.{sym, _∙_}
+use mathlib.Core.Path.{refl, sym, _∙_}
 use Rattle.wire.proofs.Reading.{stop, next}
 use Rattle.frames.specs.Types.{ackTypes}
 use Rattle.frames.proofs.Types.{type-cut, type-other, type-longer, type-right}
 use borrow.Author.Needs.{needs}
 use borrow.Author.Tests.{not-true, not-false}
 use native.Mathlib.Omega.{arith}
-use Rattle.frames.proofs.ack_frame.check_ack.Statement.{statement}
-use Rattle.frames.proofs.ack_frame.check_ack.Tie as tie
+use Rattle.frames.proofs.ack_frame.read_header.Statement.{statement}
+use Rattle.frames.proofs.ack_frame.read_header.Tie as tie
 
 read-number-requires : tie.Need-read-number-requires
 read-number-requires c κs = search needs
@@ -94,12 +94,9 @@ returns-6 c =
     (next _ _ (k2 .delay .given .1) (k2 .before .before .read-number3 .ensures)
     (stop _ _ (c .enum-told4 .given .1) (c .before .before .read-number4 .ensures)))))
 
-check-numbers-requires : tie.Need-check-numbers-requires
-check-numbers-requires c κs = search needs
-
 returns-7 : tie.Need-returns-7
 returns-7 c =
-    let k3 = c .before .before in
+    let k3 = c .before in
     let k2 = k3 .before .before .before .before in
     let k1 = k2 .before .before .before .before in
     let t = k1 .before .before .before in
@@ -109,10 +106,10 @@ returns-7 c =
     (next _ _ (k1 .largest .given .1) (k1 .before .before .read-number2 .ensures)
     (next _ _ (k2 .delay .given .1) (k2 .before .before .read-number3 .ensures)
     (next _ _ (k3 .count .given .1) (k3 .before .before .read-number4 .ensures)
-    (c .check-numbers .ensures)))))
+    refl))))
 
-pub check-ack-spec : {M : Type 1} → statement M
-check-ack-spec =
+pub read-header-spec : {M : Type 1} → statement M
+read-header-spec =
     tie.close
     (tie.spec
     read-number-requires
@@ -134,5 +131,4 @@ check-ack-spec =
     enum-known-count
     enum-told-4
     returns-6
-    check-numbers-requires
     returns-7)

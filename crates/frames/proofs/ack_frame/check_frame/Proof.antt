@@ -1,0 +1,57 @@
+-- `frames::ack_frame::check_frame` meets its contract: the fault of the numbers before the ranges is handed on, or what the walk and what comes after it make of them.
+-- Assumes nothing.
+use borrow.Author.Needs.{needs}
+use Rattle.frames.proofs.Check.{headed, headed-walk, headed-kept}
+use Rattle.frames.proofs.ack_frame.check_frame.Statement.{statement}
+use Rattle.frames.proofs.ack_frame.check_frame.Tie as tie
+
+read-header-requires : tie.Need-read-header-requires
+read-header-requires c κs = search needs
+
+enum-told : tie.Need-enum-told
+enum-told c = search needs
+
+enum-told-2 : tie.Need-enum-told-2
+enum-told-2 c = search needs
+
+enum-known-header : tie.Need-enum-known-header
+enum-known-header c = search needs
+
+walk-ranges-requires : tie.Need-walk-ranges-requires
+walk-ranges-requires c κs = search needs
+
+check-numbers-requires : tie.Need-check-numbers-requires
+check-numbers-requires c κs = search needs
+
+returns : tie.Need-returns
+returns c = (headed _ (c .before .before .read-header .ensures) (c .enum-told .given .1), tt)
+
+returns-2 : tie.Need-returns-2
+returns-2 c = (headed _ (c .before .before .read-header .ensures) (c .enum-told2 .given .1), tt)
+
+same-length : tie.Need-same-length
+same-length c = search needs
+
+returns-3 : tie.Need-returns-3
+returns-3 c =
+    let w = c .before .before .before in
+    let k = w .before .before .before in
+    let e = k .before .before .read-header .ensures in
+    let q = headed-walk _ e (k .header .given .1) (w .walk-ranges .ensures .0) (c .check-numbers .ensures) in
+    let s = k .before .before .before .before .before .args in
+    (q, headed-kept _ e (k .header .given .1) (s .ranges .now) (w .walk-ranges .last .0) q (w .walk-ranges .ensures .1))
+
+pub check-frame-spec : {M : Type 1} → statement M
+check-frame-spec =
+    tie.close
+    (tie.spec
+    read-header-requires
+    enum-told
+    enum-told-2
+    enum-known-header
+    walk-ranges-requires
+    check-numbers-requires
+    returns
+    returns-2
+    same-length
+    returns-3)
