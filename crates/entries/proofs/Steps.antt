@@ -1,16 +1,18 @@
 -- One step over records in a row, as the code takes it: the fields of the bytes behind a group, what they leave to the next record, and that
 -- this is the rule of the definitions, in either profile.
 -- Assumes nothing.
-use Prim.Native.Nat.{ℕ, zero, suc, _+_, _-_, _%_, _≤_, _<_, zero-le}
+use Prim.Native.Nat.{ℕ, zero, suc, _+_, _-_, _*_, _%_, _≤_, _<_, zero-le}
 use mathlib.Core.Path.{_≡_, refl, sym, ap, _∙_}
 use mathlib.Core.Bool.{Bool, true, false}
-use mathlib.Core.List.{List, [], _∷_}
+use mathlib.Core.List.{List}
 use native.Mathlib.Omega.{arith}
 use borrow.Author.Tests.{le-leb, lt-leb, lt-ltb, le-ltb, eq-eqb, ne-eqb, leb-true, eqb-true, eqb-false}
 use lib.Dec.{leb, ltb, eqb}
-use lib.ListN.{length, getD}
-use Rattle.wire.specs.Bytes.{pick}
+use lib.ListN.{length, take, drop, length-drop}
+use lib.Seq.{length-take-le}
+use Rattle.wire.specs.Bytes.{pick, Octets}
 use Rattle.wire.specs.Numbers.{limit}
+use Rattle.wire.proofs.Bytes.{bound, octets-part}
 use Rattle.wire.proofs.Lengths.{split}
 use Rattle.entries.specs.Limits.{entrySize}
 use Rattle.entries.specs.Entries.{objectOf, statusOf, zerosOf, ageOf, withStatus, ageGood, entryFrom, entryBehind, atOrAbove, follows}
@@ -50,6 +52,19 @@ module _ (group : ℕ) (b : List ℕ) (x : Parts) (e : x ≡ partsIn b) where
           rw (o, s, z, a)
       go false q = let z : _≡_ {A = ℕ} 0 1 = cc in absurd (omega arith)
 
+-- the age is one of four bytes
+pub parts-age : (b : List ℕ) → Octets b → (x : Parts) → x ≡ partsIn b → (object status zeros age : ℕ) → x ≡ There object status zeros age → age ≤ 4294967295
+parts-age b o x e object status zeros age t = go (leb entrySize (length b)) refl (sym e ∙ t)
+  where
+    go : (l : Bool) → leb entrySize (length b) ≡ l → pick l (There (objectOf b) (statusOf b) (zerosOf b) (ageOf b)) Short ≡ There object status zeros age → age ≤ 4294967295
+    go true h q =
+        let a : age ≡ ageOf b = cc in
+        let m = leb-true entrySize (length b) h in
+        let l : length (take 4 (drop 12 b)) ≡ 4 = length-take-le 4 (drop 12 b) (rw (length-drop) (omega arith)) in
+        let u = bound (take 4 (drop 12 b)) 0 (octets-part b 12 4 o) in
+        omega (arith, a, rw l at u)
+    go false h q = let z : _≡_ {A = ℕ} 0 1 = cc in absurd (omega arith)
+
 module _ (group object status age : ℕ) where
   abbrev statusKnown : Entry
   statusKnown =
@@ -85,14 +100,13 @@ inside-small floor n t = go (leb n limit) refl t
     go true e t = leb-true n limit e
     go false e t = let z : _≡_ {A = ℕ} 0 1 = cc in absurd (omega arith)
 
--- the table of the oldest ages says the same as the test of the definition
-pub oldest-age : (status age : ℕ) → status ≤ 3 → age ≤ 18446744073709551615
-    → leb age (getD (18446744073709551615 ∷ 18446744073709551615 ∷ 0 ∷ 18446744073709551615 ∷ []) status 0) ≡ ageGood status age
-oldest-age zero age h f = le-leb age 18446744073709551615 f
-oldest-age (suc zero) age h f = le-leb age 18446744073709551615 f
+-- the oldest age of a status, as it is worked out, says the same as the test of the definition
+pub oldest-age : (status age : ℕ) → status ≤ 3 → age ≤ 4294967295 → leb age ((status + 2) % 4 * 4294967295) ≡ ageGood status age
+oldest-age zero age h f = le-leb age 8589934590 (omega arith)
+oldest-age (suc zero) age h f = le-leb age 12884901885 (omega arith)
 oldest-age (suc (suc zero)) zero h f = refl
 oldest-age (suc (suc zero)) (suc age) h f = lt-leb (suc age) 0 (omega arith) ∙ sym (ne-eqb (suc age) 0 (λ e. omega arith))
-oldest-age (suc (suc (suc zero))) age h f = le-leb age 18446744073709551615 f
+oldest-age (suc (suc (suc zero))) age h f = le-leb age 4294967295 f
 oldest-age (suc (suc (suc (suc n)))) age h f = absurd (omega arith)
 
 pub floor-small : (last above group floor : ℕ) → above ≤ suc limit → floor ≡ floorOf last above group → floor ≤ suc limit

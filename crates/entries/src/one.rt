@@ -1,5 +1,6 @@
 // One entry record.
 ghost use mathlib.Core.Path.{_≡_};
+ghost use Prim.Native.Nat.{_≤_};
 ghost use Rattle.wire.specs.Fields.{readFixed};
 ghost use Rattle.entries.specs.Profiles.{groupBytes};
 ghost use Rattle.entries.specs.Entries.{entryFrom, entryBehind, entryOf, entryAt, entryBy};
@@ -102,11 +103,13 @@ fn made(group: u64, object: u64, status: Status, age: u64) -> Entry
     }
 }
 
-// The oldest age that each of the four statuses may have. A table and no test, since no processor can foretell the status of a record.
-const OLDEST: [u64; 4] = [u64::MAX, u64::MAX, 0, u64::MAX];
+// The largest age that four bytes hold.
+const LARGEST_AGE: u64 = 4294967295;
 
-// Whether what comes behind the object number obeys its rule.
+// Whether what comes behind the object number obeys its rule. The oldest age of a status is worked out, 0 for the second one alone, and not
+// asked for by a test, since no processor can foretell the status of a record.
 pub(crate) fn rest_good(status: u64, zeros: u64, age: u64) -> bool
+    requires { ⌜ age ≤ 4294967295 ⌝ }
     ensures { λ r. ⌜ r ≡ restGood status zeros age ⌝ }
 {
     if zeros != 0 {
@@ -115,7 +118,7 @@ pub(crate) fn rest_good(status: u64, zeros: u64, age: u64) -> bool
     if 3 < status {
         return false;
     }
-    let oldest = OLDEST[status as usize];
+    let oldest = (status + 2) % 4 * LARGEST_AGE;
     age <= oldest
 }
 

@@ -6,7 +6,7 @@ use native.Mathlib.Numerals.{add-one}
 use borrow.Author.Tests.{not-true, not-false}
 use denote.Ref.{now}
 use Rattle.entries.specs.declared.Next.the-variants.{From}
-use Rattle.entries.proofs.Steps.{inside-small, next-short, next-outside, next-broken, next-good}
+use Rattle.entries.proofs.Steps.{parts-age, inside-small, next-short, next-outside, next-broken, next-good}
 use borrow.Author.Needs.{needs}
 use Rattle.entries.proofs.row.next_from.Statement.{statement}
 use Rattle.entries.proofs.row.next_from.Tie as tie
@@ -35,7 +35,9 @@ returns-2 c =
     next-outside (a .floor) (now (a .bytes)) _ (c .before .before .before .before .before .parts-in .ensures) _ _ _ _ (c .before .before .before .object .given .1) (w .result) (w .ensures) (not-true _ (c .if1 .taken))
 
 rest-good-requires : tie.Need-rest-good-requires
-rest-good-requires c κs = search needs
+rest-good-requires c κs =
+    let b = now (c .before .before .before .before .before .before .before .args .bytes) in
+    parts-age b (λ i. c .before .before .before .before .before .before .shared-slice-known .given i .fits) _ (c .before .before .before .before .before .parts-in .ensures) _ _ _ _ (c .before .before .before .object .given .1)
 
 returns-3 : tie.Need-returns-3
 returns-3 c =
