@@ -19,7 +19,7 @@ use Rattle.entries.specs.declared.Profile.{Profile}
 use Rattle.report.specs.Limits.{mostNumbers}
 use Rattle.report.specs.Header.{judgeField, wantedOf, countOf, headerOf, emptyHeader}
 use Rattle.entries.specs.Entries.{entriesGood}
-use Rattle.report.specs.Reader.{Reading, Whole, Stopped, numbersFrom, readNumbers, partOf, judgeEntries, reportReading, reportOf, readReport, entriesIn, entriesOf, readingOf}
+use Rattle.report.specs.Reader.{Reading, Whole, Stopped, numbersFrom, readNumbers, partOf, judgeEntries, faultBehind, reportReading, reportOf, readReport, entriesIn, entriesOf, readingOf}
 use Rattle.report.specs.declared.NumbersRead.{NumbersRead}
 
 -- ---- what the code's own answer holds
@@ -71,50 +71,49 @@ module _ (p : Profile) where
 
   -- ---- after the numbers
 
-  pub stopped-judged : (s : List ℕ) (f : NumbersRead) → (f .refusal ≡ 0 → ⊥) → readingOf f ≡ readNumbers p s → readingOf f ≡ reportReading p s
+  -- the definition's judgement of the entries by the number that the code asks for
+  judged-by : (s ns : List ℕ) (at : ℕ) → judgeEntries p s (Whole ns at) ≡ pick (eqb (faultBehind p s at (countOf ns)) 0) (Whole ns at) (Stopped (faultBehind p s at (countOf ns)))
+  unfolding judgeEntries
+  judged-by s ns at = go (leb (at + recordSize p * countOf ns) (length s)) (entriesGood p (partOf p s ns at)) (eqb (at + recordSize p * countOf ns) (length s))
+    where
+      number : Bool → Bool → Bool → ℕ
+      number a b c = pick a (pick b (pick c 0 13) 12) 2
+
+      go : (a b c : Bool) → pick a (pick b (pick c (Whole ns at) (Stopped 13)) (Stopped 12)) (Stopped 2) ≡ pick (eqb (number a b c) 0) (Whole ns at) (Stopped (number a b c))
+      go true true true = refl
+      go true true false = refl
+      go true false c = refl
+      go false b c = refl
+
+  -- the numbers were refused
+  pub stopped-judged : (s : List ℕ) (f : NumbersRead) → (f .refusal ≡ 0 → ⊥) → readingOf f ≡ readNumbers p s → Stopped (f .refusal) ≡ reportReading p s
   unfolding reportReading judgeEntries
-  stopped-judged s f n e =
-      let t : Stopped (f .refusal) ≡ readNumbers p s = sym (found-stopped f (f .refusal) refl n) ∙ e in
-      found-stopped f (f .refusal) refl n ∙ ap (judgeEntries p s) t
+  stopped-judged s f n e = ap (judgeEntries p s) (sym (found-stopped f (f .refusal) refl n) ∙ e)
 
-  module _ (s : List ℕ) (f : NumbersRead) (z : f .refusal ≡ 0) (e : readingOf f ≡ readNumbers p s) (k : ℕ) (c : k ≡ countOf (take (f .count) (f .numbers))) where
-    abbrev ns : List ℕ
-    ns = take (f .count) (f .numbers)
-
-    after : reportReading p s ≡ judgeEntries p s (Whole ns (f .next))
+  -- they were not: r is what the code has of what comes behind them
+  module _ (s : List ℕ) (f : NumbersRead) (z : f .refusal ≡ 0) (e : readingOf f ≡ readNumbers p s) (k r : ℕ) (c : k ≡ countOf (take (f .count) (f .numbers))) (j : r ≡ faultBehind p s (f .next) k) where
+    after : reportReading p s ≡ pick (eqb r 0) (Whole (take (f .count) (f .numbers)) (f .next)) (Stopped r)
     unfolding reportReading
-    after = ap (judgeEntries p s) (sym e ∙ found-whole f z)
+    after = ap (judgeEntries p s) (sym e ∙ found-whole f z) ∙ rw (j, c) (judged-by s (take (f .count) (f .numbers)) (f .next))
 
-    pub too-few : length s < f .next + recordSize p * k → Stopped 2 ≡ reportReading p s
-    unfolding judgeEntries
-    too-few h = rw (after, ← c, lt-leb (f .next + recordSize p * k) (length s) h)
+    pub refused-behind : (r ≡ 0 → ⊥) → Stopped r ≡ reportReading p s
+    refused-behind n = rw (ne-eqb r 0 n) at (sym after)
 
-    module _ (h : f .next + recordSize p * k ≤ length s) where
-      pub broken : false ≡ entriesGood p (take (recordSize p * k) (drop (f .next) s)) → Stopped 12 ≡ reportReading p s
-      unfolding judgeEntries
-      broken g = rw (after, ← c, le-leb (f .next + recordSize p * k) (length s) h, ← g)
-
-      pub behind : true ≡ entriesGood p (take (recordSize p * k) (drop (f .next) s)) → f .next + recordSize p * k < length s → Stopped 13 ≡ reportReading p s
-      unfolding judgeEntries
-      behind g l = rw (after, ← c, le-leb (f .next + recordSize p * k) (length s) h, ← g, ne-eqb (f .next + recordSize p * k) (length s) (λ q. omega arith))
-
-      pub accepted : true ≡ entriesGood p (take (recordSize p * k) (drop (f .next) s)) → length s ≤ f .next + recordSize p * k → readingOf f ≡ reportReading p s
-      unfolding judgeEntries
-      accepted g l = found-whole f z ∙ rw (after, ← c, le-leb (f .next + recordSize p * k) (length s) h, ← g, eq-eqb (f .next + recordSize p * k) (length s) (omega arith))
+    pub whole-behind : r ≡ 0 → Whole (take (f .count) (f .numbers)) (f .next) ≡ reportReading p s
+    whole-behind n = rw (eq-eqb r 0 n) at (sym after)
 
   -- ---- what reader and companion answer
 
-  pub report-stopped : (s : List ℕ) (f : NumbersRead) → (f .refusal ≡ 0 → ⊥) → readingOf f ≡ reportReading p s → record { refusal = f .refusal; header = emptyHeader } ≡ readReport p s
-  unfolding reportOf
-  report-stopped s f n e = ap reportOf (sym (found-stopped f (f .refusal) refl n) ∙ e)
+  pub report-stopped : (s : List ℕ) (n : ℕ) → Stopped n ≡ reportReading p s → reportOf (Stopped n) ≡ readReport p s
+  report-stopped s n e = ap reportOf e
 
-  pub report-whole : (s : List ℕ) (f : NumbersRead) → f .refusal ≡ 0 → readingOf f ≡ reportReading p s → record { refusal = f .refusal; header = headerOf (take (f .count) (f .numbers)) } ≡ readReport p s
+  pub report-whole : (s ns : List ℕ) (at : ℕ) (z : ℕ) → z ≡ 0 → Whole ns at ≡ reportReading p s → record { refusal = z; header = headerOf ns } ≡ readReport p s
   unfolding reportOf
-  report-whole s f z e = rw z (ap reportOf (sym (found-whole f z) ∙ e))
+  report-whole s ns at z t e = rw t (ap reportOf e)
 
-  pub none-stopped : (s : List ℕ) (f : NumbersRead) → (f .refusal ≡ 0 → ⊥) → readingOf f ≡ reportReading p s → [] ≡ entriesOf p s
+  pub none-stopped : (s : List ℕ) (n : ℕ) → Stopped n ≡ reportReading p s → [] ≡ entriesOf p s
   unfolding entriesIn
-  none-stopped s f n e = ap (entriesIn p s) (sym (found-stopped f (f .refusal) refl n) ∙ e)
+  none-stopped s n e = ap (entriesIn p s) e
 
   -- what an accepted report says
   pub record Judged (s ns : List ℕ) (at : ℕ) : Type 0 where
@@ -139,10 +138,9 @@ module _ (p : Profile) where
           go true false c g t e = let q : _≡_ {A = ℕ} 0 1 = cc in absurd (omega arith)
           go false b c g t e = let q : _≡_ {A = ℕ} 0 1 = cc in absurd (omega arith)
 
-  pub part-whole : (s : List ℕ) (f : NumbersRead) → f .refusal ≡ 0 → readingOf f ≡ reportReading p s → take (length s - f .next) (drop (f .next) s) ≡ entriesOf p s
+  pub part-whole : (s ns : List ℕ) (at : ℕ) → Whole ns at ≡ reportReading p s → take (length s - at) (drop at s) ≡ entriesOf p s
   unfolding entriesIn
-  part-whole s f z e =
-      let w : Whole (take (f .count) (f .numbers)) (f .next) ≡ reportReading p s = sym (found-whole f z) ∙ e in
-      let l = judged-whole s (take (f .count) (f .numbers)) (f .next) w .end in
-      let m : length s - f .next ≡ recordSize p * countOf (take (f .count) (f .numbers)) = omega arith in
+  part-whole s ns at w =
+      let l = judged-whole s ns at w .end in
+      let m : length s - at ≡ recordSize p * countOf ns = omega arith in
       rw m (ap (entriesIn p s) w)

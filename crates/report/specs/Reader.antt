@@ -8,7 +8,7 @@ use Rattle.wire.specs.Fields.{formed}
 use Rattle.wire.specs.Numbers.{readNumber}
 use Rattle.report.specs.Limits.{mostNumbers}
 use Rattle.entries.specs.Profiles.{recordSize, ofProfile}
-use Rattle.report.specs.Header.{judgeField, wantedOf, countOf, headerOf, emptyHeader}
+use Rattle.report.specs.Header.{unless, judgeField, wantedOf, countOf, headerOf, emptyHeader}
 use Rattle.entries.specs.Entries.{entriesGood}
 use Rattle.entries.specs.declared.Profile.{Profile}
 use Rattle.report.specs.declared.NumbersRead.{NumbersRead}
@@ -42,6 +42,13 @@ judgeEntries p s (Whole ns at) =
     (pick (entriesGood p (partOf p s ns at))
     (pick (eqb (at + recordSize p * countOf ns) (length s)) (Whole ns at) (Stopped 13))
     (Stopped 12)) (Stopped 2)
+
+-- the same as a number, 0 for no refusal: what k entries at at bring, as the code asks for it
+abbrev pub faultBehind : Profile → List ℕ → ℕ → ℕ → ℕ
+faultBehind p s at k =
+    pick (leb (at + recordSize p * k) (length s))
+    (pick (entriesGood p (take (recordSize p * k) (drop at s)))
+    (unless 13 (eqb (at + recordSize p * k) (length s))) 12) 2
 
 -- the whole report: its numbers, then its entries
 unfoldable pub reportReading : Profile → List ℕ → Reading

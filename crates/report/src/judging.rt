@@ -158,17 +158,31 @@ pub(crate) fn last_of(numbers: &[u64]) -> u64
     numbers[n - 1]
 }
 
-// The first refusal that the numbers bring, each judged after those before it; 0 for none.
+// The first refusal that the numbers bring, each judged after those before it; 0 for none. Only the sum, the metric count and each type
+// or count behind can bring one, so no other number is looked at.
 pub(crate) fn first_fault(profile: Profile, numbers: &[u64]) -> u64
+    requires { ⌜ fixedNumbers ≤ length (now numbers) ⌝ }
     ensures { λ r. ⌜ r ≡ firstFault profile (now (numbers .entry)) ⌝ }
 {
-    let mut i: usize = 0;
+    if !adds_up(
+        numbers[AT_TOTAL],
+        numbers[AT_RECEIVED],
+        numbers[AT_LATE],
+        numbers[AT_LOST],
+    ) {
+        return 11;
+    }
+    let most = most_metrics(profile) as u64;
+    if most < numbers[AT_METRICS] {
+        return 10;
+    }
+    let mut i: usize = FIXED;
     while i < numbers.len() {
-        let refusal = judge_next(profile, &numbers[..i], numbers[i]);
+        let refusal = judge_later(profile, &numbers[..i], numbers[i]);
         if refusal != 0 {
             return refusal;
         }
-        i += 1;
+        i += 2;
     }
     0
 }

@@ -3,7 +3,7 @@ ghost use mathlib.Core.Path.{_≡_};
 ghost use Prim.Native.Nat.{_≤_};
 ghost use lib.ListN.{length};
 ghost use Rattle.report.specs.Limits.{mostNumbers};
-ghost use Rattle.report.specs.Reader.{readingOf, readNumbers, reportReading, readReport, entriesOf, readBy, entriesBy};
+ghost use Rattle.report.specs.Reader.{Stopped, readingOf, readNumbers, faultBehind, reportOf, readReport, entriesOf, readBy, entriesBy};
 use crate::Asked;
 use crate::MOST_NUMBERS;
 use crate::NumbersRead;
@@ -74,44 +74,52 @@ fn stopped(refusal: u64) -> NumbersRead
     }
 }
 
-// Judges a whole report: its numbers, then whether its entries are there (2), good (12) and its end (13).
-fn judge_report(profile: Profile, s: &[u8]) -> NumbersRead
-    ensures { λ r. ⌜ (readingOf r ≡ reportReading profile (now (s .entry))) × ((r .next ≤ length (now (s .entry))) × (r .count ≤ mostNumbers)) ⌝ }
+// What comes behind the numbers brings: too few bytes for the entries (2), a broken one (12), bytes behind them (13), or nothing (0).
+// It is handed where they begin and how many there are, and no numbers, which would be copied.
+fn fault_behind(profile: Profile, s: &[u8], at: usize, count: u64) -> u64
+    requires { ⌜ at ≤ length (now s) ⌝ }
+    ensures { λ r. ⌜ r ≡ faultBehind profile (now (s .entry)) at count ⌝ }
 {
-    let found = read_numbers(profile, s);
-    if found.refusal != 0 {
-        return found;
-    }
-    let at = found.next;
-    let count = found.count;
-    let numbers = found.numbers;
-    let entries = last_of(&numbers[..count]) as usize;
+    let entries = count as usize;
     let rest = s.len() - at;
     if records_in(profile, rest) < entries {
-        return stopped(2);
+        return 2;
     }
     let end = at + record_size(profile) * entries;
     if !entries_good(profile, &s[at..end]) {
-        return stopped(12);
+        return 12;
     }
     if end < s.len() {
-        return stopped(13);
+        return 13;
     }
-    found
+    0
+}
+
+// A refusal, with the empty header.
+fn refused(refusal: u64) -> Report
+    ensures { λ r. ⌜ r ≡ reportOf (Stopped refusal) ⌝ }
+{
+    let header = empty_header();
+    Report { refusal, header }
 }
 
 // Reads a whole report of a profile: 0 and its header, or the first fault and the empty header.
 fn read_as(profile: Profile, s: &[u8]) -> Report
     ensures { λ r. ⌜ r ≡ readReport profile (now (s .entry)) ⌝ }
 {
-    let found = judge_report(profile, s);
+    let found = read_numbers(profile, s);
     let refusal = found.refusal;
     if refusal != 0 {
-        let header = empty_header();
-        return Report { refusal, header };
+        return refused(refusal);
     }
+    let at = found.next;
     let count = found.count;
     let numbers = found.numbers;
+    let entries = last_of(&numbers[..count]);
+    let fault = fault_behind(profile, s, at, entries);
+    if fault != 0 {
+        return refused(fault);
+    }
     let header = header_of(&numbers[..count]);
     Report { refusal, header }
 }
@@ -121,11 +129,7 @@ pub fn read_report(profile: u64, s: &[u8]) -> Report
     ensures { λ r. ⌜ r ≡ readBy profile (now (s .entry)) ⌝ }
 {
     let Asked::For(known) = asked_for(profile) else {
-        let header = empty_header();
-        return Report {
-            refusal: 18,
-            header,
-        };
+        return refused(18);
     };
     read_as(known, s)
 }
@@ -134,11 +138,19 @@ pub fn read_report(profile: u64, s: &[u8]) -> Report
 fn part_as(profile: Profile, s: &[u8]) -> &[u8]
     ensures { λ r. ⌜ now r ≡ entriesOf profile (now (s .entry)) ⌝ }
 {
-    let found = judge_report(profile, s);
-    if found.refusal != 0 {
+    let found = read_numbers(profile, s);
+    let refusal = found.refusal;
+    if refusal != 0 {
         return &s[0..0];
     }
     let at = found.next;
+    let count = found.count;
+    let numbers = found.numbers;
+    let entries = last_of(&numbers[..count]);
+    let fault = fault_behind(profile, s, at, entries);
+    if fault != 0 {
+        return &s[0..0];
+    }
     &s[at..]
 }
 

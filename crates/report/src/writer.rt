@@ -6,6 +6,7 @@ ghost use Prim.Native.Nat.{_+_, _≤_};
 ghost use lib.ListN.{length};
 ghost use Rattle.wire.specs.Bytes.{splice};
 ghost use Rattle.wire.specs.Numbers.{encodeAll, allSmall};
+ghost use Rattle.report.specs.Layout.{fixedNumbers};
 ghost use Rattle.report.specs.Writer.{planned, writeAnswer, writeBytes, answerBy, bytesBy};
 use crate::Asked;
 use crate::Header;
@@ -24,6 +25,7 @@ use entries::records_in;
 
 // What the writer answers: it judges in the paper's order, then fits the records to the room.
 fn plan(profile: Profile, numbers: &[u64], entries: &[u8], maximum: u64, room: usize) -> Written
+    requires { ⌜ fixedNumbers ≤ length (now numbers) ⌝ }
     ensures { λ r. ⌜ r ≡ planned profile (now (numbers .entry)) (now (entries .entry)) maximum room ⌝ }
 {
     let wire::Length::Bytes(head) = wire::length_of(numbers) else {
@@ -63,12 +65,28 @@ fn copy(to: &mut [u8], from: &[u8])
     }
 }
 
+// Writes the numbers, which fit: the plan has measured them, and `wire::put_numbers` would once more.
+fn store_numbers(buf: &mut [u8], numbers: &[u64])
+    requires { ⌜ (allSmall (now numbers) ≡ true) × (length (encodeAll (now numbers)) ≤ length (now buf)) ⌝ }
+    ensures { λ r. ⌜ now (buf .exit) ≡ splice (now (buf .entry)) 0 (encodeAll (now (numbers .entry))) ⌝ }
+{
+    let mut place: usize = 0;
+    let mut i: usize = 0;
+    while i < numbers.len() {
+        let v = numbers[i];
+        let len = wire::width(v);
+        wire::put_number(buf, place, v);
+        place = place + len;
+        i += 1;
+    }
+}
+
 // Writes the numbers, and from at on the records; both fit.
 fn store(buf: &mut [u8], at: usize, numbers: &[u64], records: &[u8])
     requires { ⌜ (allSmall (now numbers) ≡ true) × ((at ≡ length (encodeAll (now numbers))) × (at + length (now records) ≤ length (now buf))) ⌝ }
     ensures { λ r. ⌜ now (buf .exit) ≡ splice (now (buf .entry)) 0 (encodeAll (now (numbers .entry)) ++ now (records .entry)) ⌝ }
 {
-    wire::put_numbers(buf, 0, numbers);
+    store_numbers(buf, numbers);
     let end = at + records.len();
     copy(&mut buf[at..end], records);
 }

@@ -17,14 +17,13 @@ enum-known-known c = search needs
 enum-told : tie.Need-enum-told
 enum-told c = search needs
 
-empty-header-requires : tie.Need-empty-header-requires
-empty-header-requires c κs = search needs
+refused-requires : tie.Need-refused-requires
+refused-requires c κs = search needs
 
 returns : tie.Need-returns
-unfolding reportOf
 returns c =
     let a = c .before .before .before .before .before .args in
-    rw (c .empty-header .ensures) (asked-none (a .profile) (reportOf (Stopped 18)) (λ p. readReport p (now (a .s))) (sym (c .before .enum-told .given .1) ∙ c .before .before .before .asked-for .ensures))
+    c .refused .ensures ∙ (asked-none (a .profile) (reportOf (Stopped 18)) (λ p. readReport p (now (a .s))) (sym (c .before .enum-told .given .1) ∙ c .before .before .before .asked-for .ensures))
 
 read-as-requires : tie.Need-read-as-requires
 read-as-requires c κs = search needs
@@ -41,7 +40,7 @@ read-report-spec =
     asked-for-requires
     enum-known-known
     enum-told
-    empty-header-requires
+    refused-requires
     returns
     read-as-requires
     returns-2)

@@ -1,31 +1,28 @@
 -- `report::store` meets its contract: the records laid behind the numbers are one write of both.
 -- Assumes nothing.
-use mathlib.Core.Path.{_≡_, sym, _∙_}
+use mathlib.Core.Path.{_≡_}
 use Prim.Native.Nat.{ℕ, _+_, _-_, _≤_}
 use mathlib.Core.List.{List, _++_}
 use native.Mathlib.Omega.{arith}
 use denote.Ref.{now}
 use lib.ListN.{length, take, drop}
 use lib.Seq.{drop-drop}
-use mathlib.Core.Bool.{true}
 use Rattle.wire.specs.Bytes.{splice}
-use Rattle.wire.specs.Numbers.{encodeAll, allSmall, putBytes}
+use Rattle.wire.specs.Numbers.{encodeAll}
 use Rattle.wire.proofs.Bytes.{splice-splice}
-use Rattle.wire.proofs.Writing.{placed-yes, put-small}
 use borrow.Author.Needs.{needs}
 use Rattle.report.proofs.writer.store.Statement.{statement}
 use Rattle.report.proofs.writer.store.Tie as tie
 
-laid : (xs ns rs ys zs : List ℕ) (at : ℕ) → allSmall ns ≡ true → at ≡ length (encodeAll ns) → at + length rs ≤ length xs → ys ≡ putBytes xs 0 ns → zs ≡ rs
+laid : (xs ns rs ys zs : List ℕ) (at : ℕ) → at ≡ length (encodeAll ns) → at + length rs ≤ length xs → ys ≡ splice xs 0 (encodeAll ns) → zs ≡ rs
     → take at ys ++ (zs ++ drop (at + length rs - at) (drop at ys)) ≡ splice xs 0 (encodeAll ns ++ rs)
-laid xs ns rs ys zs at s e h p q =
+laid xs ns rs ys zs at e h y q =
     let m : at + length rs - at ≡ length rs = omega arith in
-    let y : ys ≡ splice xs 0 (encodeAll ns) = p ∙ sym (placed-yes xs 0 (encodeAll ns) (omega arith) .1 ∙ put-small xs 0 ns s .1) in
     let f : at ≡ 0 + length (encodeAll ns) = omega arith in
     rw (m, drop-drop, q, y, f) (splice-splice xs (encodeAll ns) rs 0 (omega arith))
 
-put-numbers-requires : tie.Need-put-numbers-requires
-put-numbers-requires c κs = search needs
+store-numbers-requires : tie.Need-store-numbers-requires
+store-numbers-requires c κs = search needs
 
 add-end : tie.Need-add-end
 add-end c = search needs
@@ -49,13 +46,13 @@ returns : tie.Need-returns
 returns c =
     let a = c .before .before .before .before .before .before .before .before .before .before .before .args in
     let p = c .before .before .before .before .before .before .before .before .before .before .before .pre in
-    laid (now (a .buf)) (now (a .numbers)) (now (a .records)) _ _ (a .at) (p .0) (p .1 .0) (p .1 .1) (c .before .before .before .before .before .before .put-numbers .ensures .1) (c .before .before .copy .ensures)
+    laid (now (a .buf)) (now (a .numbers)) (now (a .records)) _ _ (a .at) (p .1 .0) (p .1 .1) (c .before .before .before .before .before .before .store-numbers .ensures) (c .before .before .copy .ensures)
 
 pub store-spec : {M : Type 1} → statement M
 store-spec =
     tie.close
     (tie.spec
-    put-numbers-requires
+    store-numbers-requires
     add-end
     sub-copy
     part-copy-start

@@ -64,7 +64,9 @@ slice-aggregate-plan c =
     sym (length-take-le _ _ (omega (arith, c .before .before .looked-at .ensures .1)))
 
 plan-requires : tie.Need-plan-requires
-plan-requires c κs = search needs
+plan-requires c κs =
+    let l : length (c .before .numbers-of .result) ≡ 25 = search needs in
+    rw (length-take-le (8 + 2 * c .before .before .looked-at .result) (c .before .numbers-of .result) (omega (arith, c .before .before .looked-at .ensures .1))) (omega arith)
 
 enum-known-answer : tie.Need-enum-known-answer
 enum-known-answer c = search needs
