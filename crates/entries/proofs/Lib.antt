@@ -5,6 +5,7 @@ pub mod Order
 pub mod Steps
 pub mod Records
 pub mod Verdicts
+pub mod Runs
 pub mod Largest
 pub mod Exactly
 pub mod Last

@@ -8,6 +8,8 @@ use Rattle.entries.proofs.one.entry_at.Reads as entry-at
 use Rattle.entries.proofs.one.entry_at.Kinds as entry-at-kinds
 use Rattle.entries.proofs.row.entries_good.Reads as entries-good
 use Rattle.entries.proofs.row.entries_good.Kinds as entries-good-kinds
+use Rattle.entries.proofs.row.good_run.Reads as good-run
+use Rattle.entries.proofs.row.good_run.Kinds as good-run-kinds
 use Rattle.entries.proofs.row.entries_fault.Reads as entries-fault
 use Rattle.entries.proofs.row.entries_fault.Kinds as entries-fault-kinds
 use Rattle.entries.proofs.fit.fitting.Reads as fitting
@@ -31,6 +33,9 @@ entry-at-one κs given x y s t p q = p ∙ sym q
 
 pub entries-good-one : OneAnswer 1 entries-good-kinds.ps entries-good-kinds.r entries-good.Post
 entries-good-one κs given x y s t p q = p ∙ sym q
+
+pub good-run-one : OneAnswer 1 good-run-kinds.ps good-run-kinds.r good-run.Post
+good-run-one κs given x y s t p q = p ∙ sym q
 
 pub entries-fault-one : OneAnswer 1 entries-fault-kinds.ps entries-fault-kinds.r entries-fault.Post
 entries-fault-one κs given x y s t p q = p ∙ sym q

@@ -12,13 +12,9 @@ use lib.Seq.{drop-drop}
 use Rattle.wire.specs.Bytes.{pick}
 use Rattle.entries.specs.Limits.{mostGiven}
 use Rattle.entries.specs.Profiles.{recordSize}
-use Rattle.entries.specs.Entries.{groupOf, behind, entryBehind, recordAt, entryAt, follows, recordsGood, entriesGood, entriesFault}
-use Rattle.entries.specs.Steps.{inside, floorOf, nextOf}
+use Rattle.entries.specs.Entries.{entryAt, follows, recordsGood, entriesGood, entriesFault}
 use Rattle.entries.specs.declared.Profile.{Profile}
-use Rattle.entries.specs.declared.Next.{Next}
-use Rattle.entries.specs.declared.Next.the-variants.{From, Stop}
 use Rattle.entries.proofs.Sizes.{step}
-use Rattle.entries.proofs.Steps.{followed, step-is}
 
 -- ---- one record more
 
@@ -70,22 +66,3 @@ module _ (p : Profile) (s : List ℕ) (n : ℕ) (m : n ≡ length s / recordSize
       fault-records l g f =
           let k : length s / recordSize p ≤ mostGiven = rw m at l in
           ap (λ (b : Bool). pick b 0 12) f ∙ rw (eq-eqb (length s % recordSize p) 0 even, le-leb (length s / recordSize p) mostGiven k)
-
--- one step of the code over record i, whose group is g; R is the answer of the whole
-module _ (p : Profile) (s : List ℕ) (n last above i : ℕ) (R : Bool) (h : i < n) (inv : rest p n i s last above ≡ R) (g : ℕ) (q : g ≡ groupOf p (recordAt p s i)) where
-  here : pick (inside last g) (followed (nextOf (floorOf last above g) (entryBehind 0 (behind p (recordAt p s i)))) (rest p n (i + 1) s g)) false ≡ R
-  here = rw q (sym (step-is last above (groupOf p (recordAt p s i)) (behind p (recordAt p s i)) (rest p n (i + 1) s)) ∙ sym (turn p n last above i s h) ∙ inv)
-
-  pub stop-group : inside last g ≡ false → false ≡ R
-  stop-group l = rw l at here
-
-  -- x is what it leaves to the next; floor and b are what the code has for the floor and the bytes behind the group
-  module _ (l : inside last g ≡ true) (floor : ℕ) (f : floor ≡ floorOf last above g) (b : List ℕ) (d : b ≡ behind p (recordAt p s i)) (x : Next) (e : x ≡ nextOf floor (entryBehind 0 b)) where
-    on : followed x (rest p n (i + 1) s g) ≡ R
-    on = rw (e, f, d) (rw l at here)
-
-    pub stop-object : x ≡ Stop → false ≡ R
-    stop-object t = rw t at on
-
-    pub more-record : (m : ℕ) → x ≡ From m → rest p n (i + 1) s g m ≡ R
-    more-record m t = rw t at on

@@ -15,7 +15,7 @@ use Rattle.wire.specs.Numbers.{limit}
 use Rattle.wire.proofs.Bytes.{bound, octets-part}
 use Rattle.wire.proofs.Lengths.{split}
 use Rattle.entries.specs.Limits.{entrySize}
-use Rattle.entries.specs.Entries.{objectOf, statusOf, zerosOf, ageOf, withStatus, ageGood, entryFrom, entryBehind, atOrAbove, follows}
+use Rattle.entries.specs.Entries.{objectOf, statusOf, zerosOf, ageOf, withStatus, ageGood, entryFrom, entryBehind, atOrAbove, followsOr}
 use Rattle.entries.specs.Steps.{partsIn, restGood, inside, floorOf, nextOf}
 use Rattle.entries.specs.declared.Status.{Status}
 use Rattle.entries.specs.declared.Status.the-variants.{Received, Late, NotReceived, Partial}
@@ -178,17 +178,17 @@ module _ (floor : ℕ) (b : List ℕ) (x : Parts) (e : x ≡ partsIn b) where
 -- ---- the step is that of the definitions
 
 -- what comes after a record
-abbrev pub followed : Next → (ℕ → Bool) → Bool
-followed (From n) f = f n
-followed Stop f = false
+abbrev pub followed : {A : Type 0} → Next → (ℕ → A) → A → A
+followed (From n) f x = f n
+followed Stop f x = x
 
 -- the order by group, then object: the group is at or above the last one, and the object number at or above the floor
-module _ (last above group object : ℕ) (k : ℕ → Bool) where
-  followed-pick : (b : Bool) → pick b (k (suc object)) false ≡ followed (pick b (From (suc object)) Stop) k
+module _ {A : Type 0} (last above group object : ℕ) (k : ℕ → A) (x : A) where
+  followed-pick : (b : Bool) → pick b (k (suc object)) x ≡ followed (pick b (From (suc object)) Stop) k x
   followed-pick true = refl
   followed-pick false = refl
 
-  in-order : pick (atOrAbove last above group object) (k (suc object)) false ≡ pick (leb last group) (followed (pick (leb (floorOf last above group) object) (From (suc object)) Stop) k) false
+  in-order : pick (atOrAbove last above group object) (k (suc object)) x ≡ pick (leb last group) (followed (pick (leb (floorOf last above group) object) (From (suc object)) Stop) k x) x
   in-order = go (eqb group last) refl
     where
       rises : (group ≡ last → ⊥) → ltb last group ≡ leb last group
@@ -200,7 +200,7 @@ module _ (last above group object : ℕ) (k : ℕ → Bool) where
           lt : last ≤ group → (group ≡ last → ⊥) → last < group
           lt h m = omega (arith, m)
 
-      go : (b : Bool) → eqb group last ≡ b → pick (pick b (leb above object) (ltb last group)) (k (suc object)) false ≡ pick (leb last group) (followed (pick (leb (pick b above 0) object) (From (suc object)) Stop) k) false
+      go : (b : Bool) → eqb group last ≡ b → pick (pick b (leb above object) (ltb last group)) (k (suc object)) x ≡ pick (leb last group) (followed (pick (leb (pick b above 0) object) (From (suc object)) Stop) k x) x
       go true e =
           let q = eqb-true group last e in
           rw (le-leb last group (omega arith)) (followed-pick (leb above object))
@@ -219,27 +219,27 @@ entryBy b group x l y z a s t u v =
     (pick u (Record group (objectOf b) NotReceived (ageOf b))
     (pick v (Record group (objectOf b) Partial (ageOf b)) Broken)))) Broken) Broken) Broken) Broken) Ends
 
-pub step-is : (last above group : ℕ) (b : List ℕ) (f : ℕ → ℕ → Bool)
-    → follows last above (entryBehind group b) f ≡ pick (inside last group) (followed (nextOf (floorOf last above group) (entryBehind 0 b)) (f group)) false
+pub step-is : {A : Type 0} (last above group : ℕ) (b : List ℕ) (f : ℕ → ℕ → A) (other : A)
+    → followsOr last above (entryBehind group b) f other ≡ pick (inside last group) (followed (nextOf (floorOf last above group) (entryBehind 0 b)) (f group) other) other
 unfolding entryBehind entryFrom
-step-is last above group b f =
+step-is last above group b f other =
     rw (le-leb 0 limit zero-le)
     (go (leb group limit) (leb entrySize (length b)) (leb (objectOf b) limit) (eqb (zerosOf b) 0) (ageGood (statusOf b) (ageOf b)) (eqb (statusOf b) 0) (eqb (statusOf b) 1) (eqb (statusOf b) 2) (eqb (statusOf b) 3))
   where
-    one : pick (atOrAbove last above group (objectOf b)) (f group (suc (objectOf b))) false
-        ≡ pick (leb last group) (followed (pick (leb (floorOf last above group) (objectOf b)) (From (suc (objectOf b))) Stop) (f group)) false
-    one = in-order last above group (objectOf b) (f group)
+    one : pick (atOrAbove last above group (objectOf b)) (f group (suc (objectOf b))) other
+        ≡ pick (leb last group) (followed (pick (leb (floorOf last above group) (objectOf b)) (From (suc (objectOf b))) Stop) (f group) other) other
+    one = in-order last above group (objectOf b) (f group) other
 
-    go : (x l y z a s t u v : Bool) → follows last above (entryBy b group x l y z a s t u v) f
-        ≡ pick (pick x (leb last group) false) (followed (nextOf (floorOf last above group) (entryBy b 0 true l y z a s t u v)) (f group)) false
+    go : (x l y z a s t u v : Bool) → followsOr last above (entryBy b group x l y z a s t u v) f other
+        ≡ pick (pick x (leb last group) false) (followed (nextOf (floorOf last above group) (entryBy b 0 true l y z a s t u v)) (f group) other) other
     go true true true true true true t u v = one
     go true true true true true false true u v = one
     go true true true true true false false true v = one
     go true true true true true false false false true = one
-    go true true true true true false false false false = sym (pick-same false (leb last group))
-    go true true true true false s t u v = sym (pick-same false (leb last group))
-    go true true true false a s t u v = sym (pick-same false (leb last group))
-    go true true false z a s t u v = sym (pick-same false (leb last group))
-    go true false y z a s t u v = sym (pick-same false (leb last group))
+    go true true true true true false false false false = sym (pick-same other (leb last group))
+    go true true true true false s t u v = sym (pick-same other (leb last group))
+    go true true true false a s t u v = sym (pick-same other (leb last group))
+    go true true false z a s t u v = sym (pick-same other (leb last group))
+    go true false y z a s t u v = sym (pick-same other (leb last group))
     go false true y z a s t u v = refl
     go false false y z a s t u v = refl

@@ -84,12 +84,16 @@ entryBy n s i = ofProfile n OtherProfile (λ p. entryAt p s i)
 abbrev pub atOrAbove : ℕ → ℕ → ℕ → ℕ → Bool
 atOrAbove last above group object = pick (eqb group last) (leb above object) (ltb last group)
 
--- "Object numbers rise strictly", in a group: last and above are 0 for the first record; f takes what it leaves for the next
+-- "Object numbers rise strictly", in a group: last and above are 0 for the first record; f takes what it leaves for the next, and x is
+-- the answer where it breaks the rule
+abbrev pub followsOr : {A : Type 0} → ℕ → ℕ → Entry → (ℕ → ℕ → A) → A → A
+followsOr last above (Record group object status age) f x = pick (atOrAbove last above group object) (f group (suc object)) x
+followsOr last above Ends f x = x
+followsOr last above Broken f x = x
+followsOr last above OtherProfile f x = x
+
 abbrev pub follows : ℕ → ℕ → Entry → (ℕ → ℕ → Bool) → Bool
-follows last above (Record group object status age) f = pick (atOrAbove last above group object) (f group (suc object)) false
-follows last above Ends f = false
-follows last above Broken f = false
-follows last above OtherProfile f = false
+follows last above e f = followsOr last above e f false
 
 -- n records in a row
 unfoldable pub recordsGood : Profile → ℕ → ℕ → ℕ → List ℕ → Bool

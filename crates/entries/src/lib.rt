@@ -17,6 +17,7 @@ pub use one::read_entry;
 pub use row::at_or_above;
 pub use row::entries_fault;
 pub use row::entries_good;
+pub use row::good_run;
 
 // The length of an entry record in bytes; in profile 2 its group comes before that.
 pub const RECORD: usize = 16;
@@ -73,6 +74,13 @@ enum Parts {
 enum Next {
     From(u64),
     Stop,
+}
+
+// How many records in a row are good, and what the last of them leaves for the next: its group and one past its object number.
+pub struct Run {
+    pub good: usize,
+    pub last: u64,
+    pub above: u64,
 }
 
 impl Entry {

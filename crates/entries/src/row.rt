@@ -1,8 +1,9 @@
 // Records in a row.
 ghost use mathlib.Core.Path.{_≡_};
-ghost use Prim.Native.Nat.{suc, _≤_};
+ghost use Prim.Native.Nat.{suc, _≤_, min};
 ghost use Rattle.wire.specs.Numbers.{limit};
 ghost use Rattle.entries.specs.Entries.{atOrAbove, entryBehind, entriesGood, entriesFault};
+ghost use Rattle.entries.specs.Runs.{runTo, runOf};
 ghost use Rattle.entries.specs.Steps.{inside, floorOf, nextOf};
 use crate::GROUP;
 use crate::MOST_GIVEN;
@@ -10,6 +11,7 @@ use crate::Next;
 use crate::Parts;
 use crate::Profile;
 use crate::RECORD;
+use crate::Run;
 use crate::one::parts_in;
 use crate::one::rest_good;
 use crate::record_size;
@@ -66,35 +68,37 @@ fn next_from(floor: u64, bytes: &[u8]) -> Next
     Next::From(object + 1)
 }
 
-// Whether the records of profile 1 obey their rule and rise. Each profile has a loop of its own, so that neither asks for the other's fields.
-fn objects_good(entries: &[u8]) -> bool
-    ensures { λ r. ⌜ r ≡ entriesGood Profile.One (now (entries .entry)) ⌝ }
+// How many records of profile 1 in a row obey their rule and rise. Each profile has a loop of its own, so that neither asks for the other's fields.
+fn objects_run(above: u64, entries: &[u8]) -> Run
+    requires { ⌜ above ≤ suc limit ⌝ }
+    ensures { λ r. ⌜ r ≡ runOf Profile.One 0 above (now (entries .entry)) ⌝ }
 {
     let n = entries.len() / RECORD;
     // One past the object number of the record before.
-    let mut above: u64 = 0;
+    let mut floor = above;
     let mut i: usize = 0;
     while i < n {
         let at = i * RECORD;
         let end = at + RECORD;
-        let Next::From(next) = next_from(above, &entries[at..end]) else {
-            return false;
+        let Next::From(next) = next_from(floor, &entries[at..end]) else {
+            return run_to(i, 0, floor);
         };
-        above = next;
+        floor = next;
         i += 1;
     }
-    true
+    run_to(i, 0, floor)
 }
 
-// Whether the records of profile 2 obey their rule and rise by group, then object.
-fn groups_good(entries: &[u8]) -> bool
-    ensures { λ r. ⌜ r ≡ entriesGood Profile.Two (now (entries .entry)) ⌝ }
+// How many records of profile 2 in a row obey their rule and rise by group, then object.
+fn groups_run(last: u64, above: u64, entries: &[u8]) -> Run
+    requires { ⌜ (last ≤ limit) × (above ≤ suc limit) ⌝ }
+    ensures { λ r. ⌜ r ≡ runOf Profile.Two last above (now (entries .entry)) ⌝ }
 {
     let size = GROUP + RECORD;
     let n = entries.len() / size;
     // The group of the record before, and one past its object number.
-    let mut last: u64 = 0;
-    let mut above: u64 = 0;
+    let mut before = last;
+    let mut past = above;
     let mut i: usize = 0;
     while i < n {
         let at = i * size;
@@ -105,30 +109,74 @@ fn groups_good(entries: &[u8]) -> bool
             next: _,
         } = wire::read_fixed8(record, 0)
         else {
-            return false;
+            return run_to(i, before, past);
         };
-        if !within(last, group) {
-            return false;
+        if !within(before, group) {
+            return run_to(i, before, past);
         }
-        let floor = floor_of(last, above, group);
+        let floor = floor_of(before, past, group);
         let Next::From(next) = next_from(floor, &record[GROUP..]) else {
-            return false;
+            return run_to(i, before, past);
         };
-        last = group;
-        above = next;
+        before = group;
+        past = next;
         i += 1;
     }
-    true
+    run_to(i, before, past)
+}
+
+// So many records are good, and this is what the last of them leaves for the next.
+fn run_to(good: usize, last: u64, above: u64) -> Run
+    ensures { λ r. ⌜ r ≡ runTo good last above ⌝ }
+{
+    Run { good, last, above }
+}
+
+// How many records are good one after the other, the first after a record of the group last, one past whose object number is above.
+pub fn good_run(profile: Profile, last: u64, above: u64, entries: &[u8]) -> Run
+    ensures { λ r. ⌜ r ≡ runOf profile last above (now (entries .entry)) ⌝ }
+{
+    let run = run_from(profile, last, at_most(above, LARGEST + 1), entries);
+    if run.good == 0 {
+        return run_to(0, last, above);
+    }
+    run
+}
+
+// The same where no object number above the largest is asked for.
+fn run_from(profile: Profile, last: u64, above: u64, entries: &[u8]) -> Run
+    requires { ⌜ above ≤ suc limit ⌝ }
+    ensures { λ r. ⌜ r ≡ runOf profile last above (now (entries .entry)) ⌝ }
+{
+    match profile {
+        Profile::One => {
+            if last != 0 {
+                return run_to(0, last, above);
+            }
+            objects_run(above, entries)
+        }
+        Profile::Two => {
+            if LARGEST < last {
+                return run_to(0, last, above);
+            }
+            groups_run(last, above, entries)
+        }
+    }
+}
+
+// The smaller of the two.
+fn at_most(n: u64, most: u64) -> u64
+    ensures { λ r. ⌜ r ≡ min n most ⌝ }
+{
+    if n <= most { n } else { most }
 }
 
 // Whether every record obeys its rule and they rise by group, then object.
 pub fn entries_good(profile: Profile, entries: &[u8]) -> bool
     ensures { λ r. ⌜ r ≡ entriesGood profile (now (entries .entry)) ⌝ }
 {
-    match profile {
-        Profile::One => objects_good(entries),
-        Profile::Two => groups_good(entries),
-    }
+    let run = good_run(profile, 0, 0, entries);
+    run.good == records_in(profile, entries.len())
 }
 
 // The refusal that the records handed to a writer bring, 0 for none.

@@ -11,7 +11,7 @@ pub mod Numbering
 pub mod Fits
 pub mod Steps
 pub mod RowSteps
-pub mod Walking
+pub mod Keys
 pub mod Endings
 pub mod Calling
 pub mod Combining

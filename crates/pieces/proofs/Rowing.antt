@@ -2,24 +2,45 @@
 -- Assumes nothing.
 use Prim.Native.Nat.{ℕ, zero, suc, _+_, _-_, _*_, _≤_, _<_, zero-le}
 use mathlib.Core.Path.{_≡_, refl, sym, ap, ap₂, _∙_}
+use mathlib.Core.Bool.{Bool, true, false}
 use mathlib.Core.List.{List, [], _∷_, _++_}
 use native.Mathlib.Nat.{mul-suc, mul-zero, add-suc}
 use native.Mathlib.Omega.{arith}
 use lib.ListN.{length, take, drop, length-append, length-drop}
 use lib.Seq.{length-take-le, take-add, drop-drop}
+use Rattle.wire.specs.Bytes.{pick}
 use Rattle.entries.specs.Profiles.{recordSize}
 use Rattle.entries.specs.declared.Profile.{Profile}
 use Rattle.uncut.specs.State.{State, Records}
 use Rattle.uncut.specs.Step.{after, delivered}
 use Rattle.uncut.specs.Cutting.{taking}
-use Rattle.pieces.specs.Reading.{keyOf, byKey, runFrom}
+use Rattle.pieces.specs.Reading.{keyIn, keyOf}
 use Rattle.pieces.specs.declared.Key.{Key}
 use Rattle.pieces.specs.declared.Key.the-variants.{Good, Bad}
-use Rattle.pieces.specs.declared.Run.{Run}
+use Rattle.entries.specs.Entries.{entryOf, atOrAbove, followsOr}
+use Rattle.entries.specs.Runs.{runTo, runFrom}
+use Rattle.entries.specs.declared.Entry.{Entry}
+use Rattle.entries.specs.declared.Entry.the-variants.{Record, Ends, Broken, OtherProfile}
+use Rattle.entries.specs.declared.Run.{Run}
 use Rattle.uncut.proofs.Cuts.{after-append, delivered-append}
 use Rattle.pieces.proofs.Going.{taking-append}
 use Rattle.uncut.proofs.Rows.{size-pos}
 use Rattle.pieces.proofs.Filling.{Rowed, keyed, keyGiven, rowed-whole}
+
+-- what comes after a key
+abbrev pub byKey : {A : Type 0} → Key → (ℕ → ℕ → A) → A → A
+byKey (Good group above) f x = f group above
+byKey Bad f x = x
+
+by-key : {A : Type 0} (last above : ℕ) (e : Entry) (f : ℕ → ℕ → A) (x : A) → followsOr last above e f x ≡ byKey (keyIn last above e) f x
+by-key last above (Record g o status age) f x = go (atOrAbove last above g o)
+  where
+    go : (b : Bool) → pick b (f g (suc o)) x ≡ byKey (pick b (Good g (suc o)) Bad) f x
+    go true = refl
+    go false = refl
+by-key last above Ends f x = refl
+by-key last above Broken f x = refl
+by-key last above OtherProfile f x = refl
 
 module _ (p : Profile) where
   -- bytes one after the other, each with the room that the ones before leave
@@ -64,9 +85,11 @@ module _ (p : Profile) where
       pub bad : k < n → keyOf p (r .last) (r .above) (take (recordSize p) (drop (recordSize p * k) s)) ≡ Bad
 
     pub found : (n good last above : ℕ) (s : List ℕ) → recordSize p * n ≤ length s → Found n good last above s (runFrom p n good last above s)
-    unfolding runFrom
+    unfolding runFrom keyOf
     found zero good last above s h = record { k = 0; counts = omega arith; within = zero-le; done = none-done last above s; bad = λ z. absurd (omega arith) }
-    found (suc n) good last above s h = go (keyOf p last above (take (recordSize p) s)) refl (λ g o. found n (suc good) g o (drop (recordSize p) s) rest)
+    found (suc n) good last above s h =
+        rw (by-key last above (entryOf p (take (recordSize p) s)) (λ group next. runFrom p n (suc good) group next (drop (recordSize p) s)) (runTo good last above))
+        (go (keyOf p last above (take (recordSize p) s)) refl (λ g o. found n (suc good) g o (drop (recordSize p) s) rest))
       where
         long : recordSize p + recordSize p * n ≤ length s
         long = omega (arith, mul-suc (recordSize p) n)

@@ -1,20 +1,16 @@
--- The next field behind what is carried, and a row of records read where it stands.
-use Prim.Native.Nat.{ℕ, zero, suc, _+_, _-_}
+-- The next field behind what is carried, and the key of a record.
+use Prim.Native.Nat.{ℕ, _+_, _-_}
 use mathlib.Core.Bool.{Bool, true, false}
 use mathlib.Core.List.{List}
 use lib.Dec.{eqb, leb}
-use lib.ListN.{take, drop}
 use Rattle.wire.specs.Bytes.{pick}
 use Rattle.wire.specs.declared.Number.{Number}
 use Rattle.wire.specs.declared.Number.the-variants.{Value, Ends}
-use Rattle.entries.specs.Profiles.{recordSize}
-use Rattle.entries.specs.Entries.{entryOf, atOrAbove}
+use Rattle.entries.specs.Entries.{entryOf, followsOr}
 use Rattle.entries.specs.declared.Profile.{Profile}
 use Rattle.entries.specs.declared.Entry.{Entry}
-use Rattle.entries.specs.declared.Entry.the-variants.{Record, Ends as EntryEnds, Broken, OtherProfile}
 use Rattle.pieces.specs.declared.Key.{Key}
 use Rattle.pieces.specs.declared.Key.the-variants.{Good, Bad}
-use Rattle.pieces.specs.declared.Run.{Run}
 use Rattle.pieces.specs.declared.Stand.{Stand}
 use Rattle.pieces.specs.declared.Moved.{Moved}
 
@@ -54,21 +50,7 @@ shifted carried at Ends = Ends
 
 -- what a record leaves for the next one, if it is good after the one before
 abbrev pub keyIn : ℕ → ℕ → Entry → Key
-keyIn last above (Record group object status age) = pick (atOrAbove last above group object) (Good group (suc object)) Bad
-keyIn last above EntryEnds = Bad
-keyIn last above Broken = Bad
-keyIn last above OtherProfile = Bad
+keyIn last above e = followsOr last above e Good Bad
 
 unfoldable pub keyOf : Profile → ℕ → ℕ → List ℕ → Key
 keyOf p last above r = keyIn last above (entryOf p r)
-
-abbrev pub byKey : {A : Type 0} → Key → (ℕ → ℕ → A) → A → A
-byKey (Good group above) f x = f group above
-byKey Bad f x = x
-
--- how many of n records are good one after the other, counted on from good
-unfoldable pub runFrom : Profile → ℕ → ℕ → ℕ → ℕ → List ℕ → Run
-runFrom p zero good last above s = record { good = good; last = last; above = above }
-runFrom p (suc n) good last above s =
-    byKey (keyOf p last above (take (recordSize p) s)) (λ group next. runFrom p n (suc good) group next (drop (recordSize p) s))
-    (record { good = good; last = last; above = above })

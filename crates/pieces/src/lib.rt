@@ -101,10 +101,3 @@ enum Key {
     Good { group: u64, above: u64 },
     Bad,
 }
-
-// How many records in a row are good, and the key of the last of them.
-struct Run {
-    good: usize,
-    last: u64,
-    above: u64,
-}

@@ -1,16 +1,15 @@
 // The records: the one that is carried is made whole, then those that lie whole in the part are judged where they stand.
 ghost use mathlib.Core.Path.{_≡_};
-ghost use Prim.Native.Nat.{_-_, _*_, _/_, _≤_, _<_};
+ghost use Prim.Native.Nat.{_-_, _*_, _≤_, _<_};
 ghost use lib.ListN.{length, drop};
 ghost use Rattle.entries.specs.Profiles.{recordSize};
-ghost use Rattle.pieces.specs.Reading.{keyOf, runFrom, countedOn, completesOf, rowHere};
+ghost use Rattle.pieces.specs.Reading.{keyOf, countedOn, completesOf, rowHere};
 ghost use Rattle.pieces.specs.Record.{stateIn};
 ghost use Rattle.pieces.specs.Serving.{Sits, Served, Past, Begun, Short};
 use crate::COUNTING;
 use crate::Key;
 use crate::Moved;
 use crate::RECORDS;
-use crate::Run;
 use crate::Stand;
 use crate::fields::as_it_was;
 use crate::fields::joined;
@@ -19,6 +18,7 @@ use entries::Entry;
 use entries::Profile;
 use entries::at_or_above;
 use entries::entry_of;
+use entries::good_run;
 use entries::record_size;
 use entries::records_in;
 
@@ -41,41 +41,6 @@ fn key_of(profile: Profile, last: u64, above: u64, bytes: &[u8]) -> Key
     Key::Good {
         group,
         above: object + 1,
-    }
-}
-
-// How many records are good one after the other.
-fn run_of(profile: Profile, last: u64, above: u64, records: &[u8]) -> Run
-    ensures { λ r. ⌜ r ≡ runFrom profile (length (now (records .entry)) / recordSize profile) 0 last above (now (records .entry)) ⌝ }
-{
-    let size = record_size(profile);
-    let n = records_in(profile, records.len());
-    let mut group_before = last;
-    let mut end_before = above;
-    let mut i: usize = 0;
-    while i < n {
-        let at = i * size;
-        let end = at + size;
-        let Key::Good { group, above: next } = key_of(
-            profile,
-            group_before,
-            end_before,
-            &records[at..end],
-        ) else {
-            return Run {
-                good: i,
-                last: group_before,
-                above: end_before,
-            };
-        };
-        group_before = group;
-        end_before = next;
-        i += 1;
-    }
-    Run {
-        good: i,
-        last: group_before,
-        above: end_before,
     }
 }
 
@@ -182,7 +147,7 @@ pub(crate) fn in_place(profile: Profile, from: Stand, part: &[u8], out: &mut [u8
         smaller_of(records_in(profile, part.len()), room),
     );
     let bytes = size * n;
-    let run = run_of(profile, from.last, from.above, &part[..bytes]);
+    let run = good_run(profile, from.last, from.above, &part[..bytes]);
     let good = run.good;
     let end = size * good;
     copy(&mut out[..end], &part[..end]);

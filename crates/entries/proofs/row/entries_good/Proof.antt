@@ -1,28 +1,21 @@
--- `entries::entries_good` meets its contract: each arm is the loop of its profile.
+-- `entries::entries_good` meets its contract: all records are good where the run is as long as they are many.
 -- Assumes nothing.
 use borrow.Author.Needs.{needs}
+use denote.Ref.{now}
+use Rattle.entries.proofs.Runs.{run-full}
 use Rattle.entries.proofs.row.entries_good.Statement.{statement}
 use Rattle.entries.proofs.row.entries_good.Tie as tie
 
-enum-told : tie.Need-enum-told
-enum-told c = search needs
+good-run-requires : tie.Need-good-run-requires
+good-run-requires c κs = search needs
 
-objects-good-requires : tie.Need-objects-good-requires
-objects-good-requires c κs = search needs
-
-enum-told-2 : tie.Need-enum-told-2
-enum-told-2 c = search needs
-
-groups-good-requires : tie.Need-groups-good-requires
-groups-good-requires c κs = search needs
+records-in-requires : tie.Need-records-in-requires
+records-in-requires c κs = search needs
 
 returns : tie.Need-returns
-returns c = rw (c .before .enum-told .given .1) (c .objects-good .ensures)
-
-returns-2 : tie.Need-returns-2
-returns-2 c = rw (c .before .enum-told2 .given .1) (c .groups-good .ensures)
+returns c =
+    let a = c .before .before .before .before .args in
+    run-full (a .profile) (now (a .entries)) (c .before .records-in .result) (c .before .before .good-run .result) (c .before .records-in .ensures) (c .before .before .good-run .ensures)
 
 pub entries-good-spec : {M : Type 1} → statement M
-entries-good-spec =
-    tie.close
-    (tie.spec enum-told objects-good-requires enum-told-2 groups-good-requires returns returns-2)
+entries-good-spec = tie.close (tie.spec good-run-requires records-in-requires returns)

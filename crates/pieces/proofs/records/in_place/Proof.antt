@@ -57,45 +57,45 @@ mul-bytes c =
     let t = bytes-there (a .profile) (a .from) (now (a .part)) (now (a .out)) (h .0) (here (c) .0) (here (c) .1) (c .smaller-of2 .result) (many (c)) (c .before .before .before .before .record-size .result) (c .before .before .before .before .record-size .ensures) in
     omega (arith, t, c .before .before .before .before .before .before .before .before .before .good)
 
-slice-aggregate-run-of : tie.Need-slice-aggregate-run-of
-slice-aggregate-run-of c =
+slice-aggregate-good-run : tie.Need-slice-aggregate-good-run
+slice-aggregate-good-run c =
     let a = c .before .before .before .before .before .before .before .before .before .before .args in
     let h = c .before .before .before .before .before .before .before .before .before .before .pre in
     sym (length-take-le _ _ (bytes-there (a .profile) (a .from) (now (a .part)) (now (a .out)) (h .0) (here (c .before) .0) (here (c .before) .1) (c .before .smaller-of2 .result) (many (c .before)) (c .before .before .before .before .before .record-size .result) (c .before .before .before .before .before .record-size .ensures)))
 
-run-of-requires : tie.Need-run-of-requires
-run-of-requires c κs = search needs
+good-run-requires : tie.Need-good-run-requires
+good-run-requires c κs = search needs
 
 mul-end : tie.Need-mul-end
 mul-end c =
     let a = c .before .before .before .before .before .before .before .before .before .before .before .args in
     let h = c .before .before .before .before .before .before .before .before .before .before .before .pre in
-    let t = end-there (a .profile) (a .from) (now (a .part)) (now (a .out)) (h .0) (here (c .before .before) .0) (here (c .before .before) .1) (c .before .before .smaller-of2 .result) (many (c .before .before)) (c .before .before .before .before .before .before .record-size .result) (c .before .before .before .before .before .before .record-size .ensures) (c .run-of .result) (c .run-of .ensures) in
+    let t = end-there (a .profile) (a .from) (now (a .part)) (now (a .out)) (h .0) (here (c .before .before) .0) (here (c .before .before) .1) (c .before .before .smaller-of2 .result) (many (c .before .before)) (c .before .before .before .before .before .before .record-size .result) (c .before .before .before .before .before .before .record-size .ensures) (c .good-run .result) (c .good-run .ensures) in
     omega (arith, t, c .before .before .before .before .before .before .before .before .before .before .before .good)
 
 slice-relend-prefix-copy : tie.Need-slice-relend-prefix-copy
 slice-relend-prefix-copy c =
     let a = c .before .before .before .before .before .before .before .before .before .before .before .args in
     let h = c .before .before .before .before .before .before .before .before .before .before .before .pre in
-    end-fits (a .profile) (a .from) (now (a .part)) (now (a .out)) (h .0) (here (c .before .before) .0) (here (c .before .before) .1) (c .before .before .smaller-of2 .result) (many (c .before .before)) (c .before .before .before .before .before .before .record-size .result) (c .before .before .before .before .before .before .record-size .ensures) (c .run-of .result) (c .run-of .ensures)
+    end-fits (a .profile) (a .from) (now (a .part)) (now (a .out)) (h .0) (here (c .before .before) .0) (here (c .before .before) .1) (c .before .before .smaller-of2 .result) (many (c .before .before)) (c .before .before .before .before .before .before .record-size .result) (c .before .before .before .before .before .before .record-size .ensures) (c .good-run .result) (c .good-run .ensures)
 
 slice-aggregate-copy : tie.Need-slice-aggregate-copy
 slice-aggregate-copy c =
     let a = c .before .before .before .before .before .before .before .before .before .before .before .before .args in
     let h = c .before .before .before .before .before .before .before .before .before .before .before .before .pre in
-    sym (length-take-le _ _ (end-fits (a .profile) (a .from) (now (a .part)) (now (a .out)) (h .0) (here (c .before .before .before) .0) (here (c .before .before .before) .1) (c .before .before .before .smaller-of2 .result) (many (c .before .before .before)) (c .before .before .before .before .before .before .before .record-size .result) (c .before .before .before .before .before .before .before .record-size .ensures) (c .before .run-of .result) (c .before .run-of .ensures)))
+    sym (length-take-le _ _ (end-fits (a .profile) (a .from) (now (a .part)) (now (a .out)) (h .0) (here (c .before .before .before) .0) (here (c .before .before .before) .1) (c .before .before .before .smaller-of2 .result) (many (c .before .before .before)) (c .before .before .before .before .before .before .before .record-size .result) (c .before .before .before .before .before .before .before .record-size .ensures) (c .before .good-run .result) (c .before .good-run .ensures)))
 
 slice-aggregate-copy-2 : tie.Need-slice-aggregate-copy-2
 slice-aggregate-copy-2 c =
     let a = c .before .before .before .before .before .before .before .before .before .before .before .before .before .args in
     let h = c .before .before .before .before .before .before .before .before .before .before .before .before .before .pre in
-    sym (length-take-le _ _ (end-there (a .profile) (a .from) (now (a .part)) (now (a .out)) (h .0) (here (c .before .before .before .before) .0) (here (c .before .before .before .before) .1) (c .before .before .before .before .smaller-of2 .result) (many (c .before .before .before .before)) (c .before .before .before .before .before .before .before .before .record-size .result) (c .before .before .before .before .before .before .before .before .record-size .ensures) (c .before .before .run-of .result) (c .before .before .run-of .ensures)))
+    sym (length-take-le _ _ (end-there (a .profile) (a .from) (now (a .part)) (now (a .out)) (h .0) (here (c .before .before .before .before) .0) (here (c .before .before .before .before) .1) (c .before .before .before .before .smaller-of2 .result) (many (c .before .before .before .before)) (c .before .before .before .before .before .before .before .before .record-size .result) (c .before .before .before .before .before .before .before .before .record-size .ensures) (c .before .before .good-run .result) (c .before .before .good-run .ensures)))
 
 copy-requires : tie.Need-copy-requires
 copy-requires c κs =
     let a = c .before .before .before .before .before .before .before .before .before .before .before .before .before .args in
     let h = c .before .before .before .before .before .before .before .before .before .before .before .before .before .pre in
-    length-take-le _ _ (end-fits (a .profile) (a .from) (now (a .part)) (now (a .out)) (h .0) (here (c .before .before .before .before) .0) (here (c .before .before .before .before) .1) (c .before .before .before .before .smaller-of2 .result) (many (c .before .before .before .before)) (c .before .before .before .before .before .before .before .before .record-size .result) (c .before .before .before .before .before .before .before .before .record-size .ensures) (c .before .before .run-of .result) (c .before .before .run-of .ensures)) ∙ sym (length-take-le _ _ (end-there (a .profile) (a .from) (now (a .part)) (now (a .out)) (h .0) (here (c .before .before .before .before) .0) (here (c .before .before .before .before) .1) (c .before .before .before .before .smaller-of2 .result) (many (c .before .before .before .before)) (c .before .before .before .before .before .before .before .before .record-size .result) (c .before .before .before .before .before .before .before .before .record-size .ensures) (c .before .before .run-of .result) (c .before .before .run-of .ensures)))
+    length-take-le _ _ (end-fits (a .profile) (a .from) (now (a .part)) (now (a .out)) (h .0) (here (c .before .before .before .before) .0) (here (c .before .before .before .before) .1) (c .before .before .before .before .smaller-of2 .result) (many (c .before .before .before .before)) (c .before .before .before .before .before .before .before .before .record-size .result) (c .before .before .before .before .before .before .before .before .record-size .ensures) (c .before .before .good-run .result) (c .before .before .good-run .ensures)) ∙ sym (length-take-le _ _ (end-there (a .profile) (a .from) (now (a .part)) (now (a .out)) (h .0) (here (c .before .before .before .before) .0) (here (c .before .before .before .before) .1) (c .before .before .before .before .smaller-of2 .result) (many (c .before .before .before .before)) (c .before .before .before .before .before .before .before .before .record-size .result) (c .before .before .before .before .before .before .before .before .record-size .ensures) (c .before .before .good-run .result) (c .before .before .good-run .ensures)))
 
 sub-after-bad : tie.Need-sub-after-bad
 sub-after-bad c = search needs
@@ -107,7 +107,7 @@ add-after-bad : tie.Need-add-after-bad
 add-after-bad c =
     let a = c .before .before .before .before .before .before .before .before .before .before .before .before .before .before .before .before .before .args in
     let h = c .before .before .before .before .before .before .before .before .before .before .before .before .before .before .before .before .before .pre in
-    let t = next-there (a .profile) (a .from) (now (a .part)) (now (a .out)) (h .0) (here (c .before .before .before .before .before .before .before .before) .0) (here (c .before .before .before .before .before .before .before .before) .1) (c .before .before .before .before .before .before .before .before .smaller-of2 .result) (many (c .before .before .before .before .before .before .before .before)) (c .before .before .before .before .before .before .before .before .before .before .before .before .record-size .result) (c .before .before .before .before .before .before .before .before .before .before .before .before .record-size .ensures) (c .before .before .before .before .before .before .run-of .result) (c .before .before .before .before .before .before .run-of .ensures) (c .if2 .taken) in
+    let t = next-there (a .profile) (a .from) (now (a .part)) (now (a .out)) (h .0) (here (c .before .before .before .before .before .before .before .before) .0) (here (c .before .before .before .before .before .before .before .before) .1) (c .before .before .before .before .before .before .before .before .smaller-of2 .result) (many (c .before .before .before .before .before .before .before .before)) (c .before .before .before .before .before .before .before .before .before .before .before .before .record-size .result) (c .before .before .before .before .before .before .before .before .before .before .before .before .record-size .ensures) (c .before .before .before .before .before .before .good-run .result) (c .before .before .before .before .before .before .good-run .ensures) (c .if2 .taken) in
     omega (arith, t, c .before .before .before .before .before .before .before .before .before .before .before .before .before .before .before .before .before .good)
 
 after-bad-requires : tie.Need-after-bad-requires
@@ -123,13 +123,13 @@ returns-2 : tie.Need-returns-2
 returns-2 c =
     let a = c .before .before .before .before .before .before .before .before .before .before .before .before .before .before .before .before .before .before .args in
     let h = c .before .before .before .before .before .before .before .before .before .before .before .before .before .before .before .before .before .before .pre in
-    row-bad-done (a .profile) (a .from) (now (a .part)) (now (a .out)) (h .0) (here (c .before .before .before .before .before .before .before .before .before) .0) (here (c .before .before .before .before .before .before .before .before .before) .1) (c .before .before .before .before .before .before .before .before .before .smaller-of2 .result) (many (c .before .before .before .before .before .before .before .before .before)) (c .before .before .before .before .before .before .before .before .before .before .before .before .before .record-size .result) (c .before .before .before .before .before .before .before .before .before .before .before .before .before .record-size .ensures) (c .before .before .before .before .before .before .before .run-of .result) (c .before .before .before .before .before .before .before .run-of .ensures) (c .before .if2 .taken) (c .before .before .before .before .copy .last .0) (c .before .before .before .before .copy .ensures) _ (c .after-bad .ensures)
+    row-bad-done (a .profile) (a .from) (now (a .part)) (now (a .out)) (h .0) (here (c .before .before .before .before .before .before .before .before .before) .0) (here (c .before .before .before .before .before .before .before .before .before) .1) (c .before .before .before .before .before .before .before .before .before .smaller-of2 .result) (many (c .before .before .before .before .before .before .before .before .before)) (c .before .before .before .before .before .before .before .before .before .before .before .before .before .record-size .result) (c .before .before .before .before .before .before .before .before .before .before .before .before .before .record-size .ensures) (c .before .before .before .before .before .before .before .good-run .result) (c .before .before .before .before .before .before .before .good-run .ensures) (c .before .if2 .taken) (c .before .before .before .before .copy .last .0) (c .before .before .before .before .copy .ensures) _ (c .after-bad .ensures)
 
 sub-now : tie.Need-sub-now
 sub-now c =
     let a = c .before .before .before .before .before .before .before .before .before .before .before .before .before .before .before .before .before .args in
     let h = c .before .before .before .before .before .before .before .before .before .before .before .before .before .before .before .before .before .pre in
-    end-left (a .profile) (a .from) (now (a .part)) (now (a .out)) (h .0) (here (c .before .before .before .before .before .before .before .before) .0) (here (c .before .before .before .before .before .before .before .before) .1) (c .before .before .before .before .before .before .before .before .smaller-of2 .result) (many (c .before .before .before .before .before .before .before .before)) (c .before .before .before .before .before .before .before .before .before .before .before .before .record-size .result) (c .before .before .before .before .before .before .before .before .before .before .before .before .record-size .ensures) (c .before .before .before .before .before .before .run-of .result) (c .before .before .before .before .before .before .run-of .ensures)
+    end-left (a .profile) (a .from) (now (a .part)) (now (a .out)) (h .0) (here (c .before .before .before .before .before .before .before .before) .0) (here (c .before .before .before .before .before .before .before .before) .1) (c .before .before .before .before .before .before .before .before .smaller-of2 .result) (many (c .before .before .before .before .before .before .before .before)) (c .before .before .before .before .before .before .before .before .before .before .before .before .record-size .result) (c .before .before .before .before .before .before .before .before .before .before .before .before .record-size .ensures) (c .before .before .before .before .before .before .good-run .result) (c .before .before .before .before .before .before .good-run .ensures)
 
 same-length-2 : tie.Need-same-length-2
 same-length-2 c = search needs
@@ -138,7 +138,7 @@ returns-3 : tie.Need-returns-3
 returns-3 c =
     let a = c .before .before .before .before .before .before .before .before .before .before .before .before .before .before .before .before .before .args in
     let h = c .before .before .before .before .before .before .before .before .before .before .before .before .before .before .before .before .before .pre in
-    row-done (a .profile) (a .from) (now (a .part)) (now (a .out)) (h .0) (here (c .before .before .before .before .before .before .before .before) .0) (here (c .before .before .before .before .before .before .before .before) .1) (c .before .before .before .before .before .before .before .before .smaller-of2 .result) (many (c .before .before .before .before .before .before .before .before)) (c .before .before .before .before .before .before .before .before .before .before .before .before .record-size .result) (c .before .before .before .before .before .before .before .before .before .before .before .before .record-size .ensures) (c .before .before .before .before .before .before .run-of .result) (c .before .before .before .before .before .before .run-of .ensures) (λ z. absurd (omega (arith, z, c .if2 .left))) (c .before .before .before .copy .last .0) (c .before .before .before .copy .ensures) _ refl
+    row-done (a .profile) (a .from) (now (a .part)) (now (a .out)) (h .0) (here (c .before .before .before .before .before .before .before .before) .0) (here (c .before .before .before .before .before .before .before .before) .1) (c .before .before .before .before .before .before .before .before .smaller-of2 .result) (many (c .before .before .before .before .before .before .before .before)) (c .before .before .before .before .before .before .before .before .before .before .before .before .record-size .result) (c .before .before .before .before .before .before .before .before .before .before .before .before .record-size .ensures) (c .before .before .before .before .before .before .good-run .result) (c .before .before .before .before .before .before .good-run .ensures) (λ z. absurd (omega (arith, z, c .if2 .left))) (c .before .before .before .copy .last .0) (c .before .before .before .copy .ensures) _ refl
 
 pub in-place-spec : {M : Type 1} → statement M
 in-place-spec =
@@ -153,8 +153,8 @@ in-place-spec =
     smaller-of-requires
     smaller-of-requires-2
     mul-bytes
-    slice-aggregate-run-of
-    run-of-requires
+    slice-aggregate-good-run
+    good-run-requires
     mul-end
     slice-relend-prefix-copy
     slice-aggregate-copy

@@ -6,7 +6,7 @@ use native.Mathlib.Omega.{arith}
 use denote.Ref.{now}
 use borrow.Author.Tests.{not-true, not-false}
 use Rattle.entries.proofs.Verdicts.{key-is}
-use Rattle.pieces.proofs.Walking.{key-none, key-order, key-good}
+use Rattle.pieces.proofs.Keys.{key-none, key-order, key-good}
 use Rattle.pieces.proofs.records.key_of.Statement.{statement}
 use Rattle.pieces.proofs.records.key_of.Tie as tie
 

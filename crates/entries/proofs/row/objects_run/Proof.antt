@@ -1,4 +1,4 @@
--- `entries::objects_good` meets its contract. The loop's invariant: the records to come, after those passed, are as good as the whole.
+-- `entries::objects_run` meets its contract. The loop's invariant: from here on the run is that of the whole.
 -- Assumes nothing.
 use borrow.Author.Needs.{needs}
 use mathlib.Core.Path.{_≡_, refl, sym, _∙_}
@@ -8,22 +8,22 @@ use native.Mathlib.Omega.{arith}
 use denote.Ref.{now}
 use lib.ListN.{length}
 use Rattle.wire.specs.Numbers.{limit}
-use Rattle.entries.specs.Entries.{entriesGood}
+use Rattle.entries.specs.Runs.{runOf}
 use Rattle.entries.specs.declared.Profile.the-variants.{One}
 use Rattle.entries.proofs.Fields.{record-is}
 use Rattle.entries.proofs.Verdicts.{next-small}
-use Rattle.entries.proofs.Records.{rest, from-start, stop-object, more-record, done}
-use Rattle.entries.proofs.row.objects_good.Statement.{statement}
-use Rattle.entries.proofs.row.objects_good.Tie as tie
+use Rattle.entries.proofs.Runs.{runRest, run-starts, stop-object, more-record, run-over}
+use Rattle.entries.proofs.row.objects_run.Statement.{statement}
+use Rattle.entries.proofs.row.objects_run.Tie as tie
 
 abbrev Inv-loop : tie.InvT-loop
-Inv-loop entries n above₀ i₀ above i = (i ≤ n) × ((above ≤ suc limit) × (rest One n i entries 0 above ≡ entriesGood One entries))
+Inv-loop above entries n floor₀ i₀ floor i = (i ≤ n) × ((floor ≤ suc limit) × (runRest One n i entries 0 floor ≡ runOf One 0 above entries))
 
 abbrev μ-loop : tie.MeasureT-loop
-μ-loop entries n above₀ i₀ above i = n - i
+μ-loop above entries n floor₀ i₀ floor i = n - i
 
 loop-holds : tie.Need-loop-holds Inv-loop μ-loop
-loop-holds c = (zero-le, (zero-le, from-start One (now (c .before .args .entries)) _ refl))
+loop-holds c = (zero-le, (c .before .pre, run-starts One _ 0 _ (now (c .before .args .entries))))
 
 mul-at : tie.Need-mul-at Inv-loop μ-loop
 mul-at c = search needs
@@ -49,11 +49,14 @@ enum-known-next c = search needs
 enum-told : tie.Need-enum-told Inv-loop μ-loop
 enum-told c = search needs
 
+run-to-requires : tie.Need-run-to-requires Inv-loop μ-loop
+run-to-requires c κs = search needs
+
 returns : tie.Need-returns Inv-loop μ-loop
 returns c =
-    let s = now (c .before .before .before .before .before .before .before .args .entries) in
-    let l = c .before .before .before .before .before .loop in
-    stop-object One s _ 0 (l .above) (l .i) _ (c .before .before .before .before .loop-test .taken) (l .inv .1 .1) 0 refl refl (l .above) refl _ (record-is One s (l .i) 16 refl) _ (c .before .before .next-from .ensures) (c .enum-told .given .1)
+    let s = now (c .before .before .before .before .before .before .before .before .args .entries) in
+    let l = c .before .before .before .before .before .before .loop in
+    c .run-to .ensures ∙ stop-object One s _ 0 (l .floor) (l .i) _ (c .before .before .before .before .before .loop-test .taken) (l .inv .1 .1) 0 refl refl (l .floor) refl _ (record-is One s (l .i) 16 refl) _ (c .before .before .before .next-from .ensures) (c .before .enum-told .given .1)
 
 add-i : tie.Need-add-i Inv-loop μ-loop
 add-i c = search needs
@@ -68,15 +71,18 @@ loop-again c =
     let h = c .before .before .before .before .before .loop-test .taken in
     let x = c .before .before .before .next-from .ensures in
     let t = c .before .next .given .1 in
-    (omega (arith, h), (next-small (l .above) _ _ _ x t, more-record One s _ 0 (l .above) (l .i) _ h (l .inv .1 .1) 0 refl refl (l .above) refl _ (record-is One s (l .i) 16 refl) _ x _ t))
+    (omega (arith, h), (next-small (l .floor) _ _ _ x t, more-record One s _ 0 (l .floor) (l .i) _ h (l .inv .1 .1) 0 refl refl (l .floor) refl _ (record-is One s (l .i) 16 refl) _ x _ t))
+
+run-to-requires-2 : tie.Need-run-to-requires-2 Inv-loop μ-loop
+run-to-requires-2 c κs = search needs
 
 returns-2 : tie.Need-returns-2 Inv-loop μ-loop
 returns-2 c =
-    let l = c .before .loop in
-    sym (done One _ 0 (l .above) (l .i) (now (c .before .before .before .args .entries)) (c .loop-test .left)) ∙ l .inv .1 .1
+    let l = c .before .before .loop in
+    c .run-to2 .ensures ∙ sym (run-over One _ 0 (l .floor) (l .i) (now (c .before .before .before .before .args .entries)) (c .before .loop-test .left)) ∙ l .inv .1 .1
 
-pub objects-good-spec : {M : Type 1} → statement M
-objects-good-spec =
+pub objects-run-spec : {M : Type 1} → statement M
+objects-run-spec =
     tie.close
     (tie.spec
     Inv-loop
@@ -90,8 +96,10 @@ objects-good-spec =
     next-from-requires
     enum-known-next
     enum-told
+    run-to-requires
     returns
     add-i
     loop-less
     loop-again
+    run-to-requires-2
     returns-2)
