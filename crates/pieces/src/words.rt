@@ -75,32 +75,28 @@ fn number_of(profile: Profile) -> u64
     }
 }
 
-// The words with numbers in their places.
-fn with_numbers(words: [u64; WORDS], numbers: &[u64]) -> [u64; WORDS]
-    requires { ⌜ length (now numbers) ≤ 25 ⌝ }
-    ensures { λ r. ⌜ r ≡ splice words 7 (now (numbers .entry)) ⌝ }
+// Puts numbers in their places. The words are written where they stand, since an array that is handed on is copied.
+fn put_numbers(state: &mut [u64; WORDS], numbers: &[u64])
+    requires { ⌜ (length (now state) ≡ 56) × (length (now numbers) ≤ 25) ⌝ }
+    ensures { λ r. ⌜ (length (now (state .exit)) ≡ 56) × (now (state .exit) ≡ splice (now (state .entry)) 7 (now (numbers .entry))) ⌝ }
 {
-    let mut next = words;
     let mut i: usize = 0;
     while i < numbers.len() {
-        next[AT_NUMBERS + i] = numbers[i];
+        state[AT_NUMBERS + i] = numbers[i];
         i += 1;
     }
-    next
 }
 
-// The words with the bytes that are carried in their places.
-fn with_held(words: [u64; WORDS], held: &[u8]) -> [u64; WORDS]
-    requires { ⌜ length (now held) ≤ 24 ⌝ }
-    ensures { λ r. ⌜ r ≡ splice words 32 (now (held .entry)) ⌝ }
+// Puts the bytes that are carried in their places.
+fn put_held(state: &mut [u64; WORDS], held: &[u8])
+    requires { ⌜ (length (now state) ≡ 56) × (length (now held) ≤ 24) ⌝ }
+    ensures { λ r. ⌜ (length (now (state .exit)) ≡ 56) × (now (state .exit) ≡ splice (now (state .entry)) 32 (now (held .entry))) ⌝ }
 {
-    let mut next = words;
     let mut i: usize = 0;
     while i < held.len() {
-        next[AT_HELD + i] = held[i] as u64;
+        state[AT_HELD + i] = held[i] as u64;
         i += 1;
     }
-    next
 }
 
 // Where nothing is said by a field it becomes 0.
@@ -156,6 +152,7 @@ pub(crate) fn store(state: &mut [u64; WORDS], profile: Profile, from: Stand)
     words[AT_ABOVE] = next.above;
     words[AT_COUNT] = count as u64;
     words[AT_CARRIED] = carried as u64;
-    let named = with_numbers(words, &numbers[..count]);
-    *state = with_held(named, &held[..carried]);
+    *state = words;
+    put_numbers(state, &numbers[..count]);
+    put_held(state, &held[..carried]);
 }

@@ -38,29 +38,31 @@ array-write-words-7 : tie.Need-array-write-words-7
 array-write-words-7 c = search needs
 
 array-share-prefix-numbers : tie.Need-array-share-prefix-numbers
-array-share-prefix-numbers c = let l : length (c .before .before .before .tidied .result .numbers) ≡ 25 = search needs in omega (arith, c .before .before .before .tidied .ensures .1, c .before .before .before .before .pre)
+array-share-prefix-numbers c = let l : length (c .before .before .before .before .tidied .result .numbers) ≡ 25 = search needs in omega (arith, c .before .before .before .before .tidied .ensures .1, c .before .before .before .before .before .pre)
 
-slice-aggregate-with-numbers : tie.Need-slice-aggregate-with-numbers
-slice-aggregate-with-numbers c = let l : length (c .before .before .before .before .tidied .result .numbers) ≡ 25 = search needs in sym (length-take-le _ _ (omega (arith, c .before .before .before .before .tidied .ensures .1, c .before .before .before .before .before .pre)))
+slice-aggregate-put-numbers : tie.Need-slice-aggregate-put-numbers
+slice-aggregate-put-numbers c = let l : length (c .before .before .before .before .before .tidied .result .numbers) ≡ 25 = search needs in sym (length-take-le _ _ (omega (arith, c .before .before .before .before .before .tidied .ensures .1, c .before .before .before .before .before .before .pre)))
 
-with-numbers-requires : tie.Need-with-numbers-requires
-with-numbers-requires c κs = let l : length (c .before .before .before .before .tidied .result .numbers) ≡ 25 = search needs in omega (arith, length-take-le (c .before .before .before .before .tidied .result .count) (c .before .before .before .before .tidied .result .numbers) (omega (arith, c .before .before .before .before .tidied .ensures .1, c .before .before .before .before .before .pre)), c .before .before .before .before .tidied .ensures .1, c .before .before .before .before .before .pre)
+put-numbers-requires : tie.Need-put-numbers-requires
+put-numbers-requires c κs = let l : length (c .before .before .before .before .before .tidied .result .numbers) ≡ 25 = search needs in omega (arith, length-take-le (c .before .before .before .before .before .tidied .result .count) (c .before .before .before .before .before .tidied .result .numbers) (omega (arith, c .before .before .before .before .before .tidied .ensures .1, c .before .before .before .before .before .before .pre)), c .before .before .before .before .before .tidied .ensures .1, c .before .before .before .before .before .before .pre)
 
 array-share-prefix-held : tie.Need-array-share-prefix-held
-array-share-prefix-held c = let l : length (c .before .before .before .before .before .tidied .result .held) ≡ 24 = search needs in omega (arith, c .before .before .before .before .before .tidied .ensures .1, c .before .before .before .before .before .before .pre)
+array-share-prefix-held c = let l : length (c .before .before .before .before .before .before .before .tidied .result .held) ≡ 24 = search needs in omega (arith, c .before .before .before .before .before .before .before .tidied .ensures .1, c .before .before .before .before .before .before .before .before .pre)
 
-slice-aggregate-with-held : tie.Need-slice-aggregate-with-held
-slice-aggregate-with-held c = let l : length (c .before .before .before .before .before .before .tidied .result .held) ≡ 24 = search needs in sym (length-take-le _ _ (omega (arith, c .before .before .before .before .before .before .tidied .ensures .1, c .before .before .before .before .before .before .before .pre)))
+slice-aggregate-put-held : tie.Need-slice-aggregate-put-held
+slice-aggregate-put-held c = let l : length (c .before .before .before .before .before .before .before .before .tidied .result .held) ≡ 24 = search needs in sym (length-take-le _ _ (omega (arith, c .before .before .before .before .before .before .before .before .tidied .ensures .1, c .before .before .before .before .before .before .before .before .before .pre)))
 
-with-held-requires : tie.Need-with-held-requires
-with-held-requires c κs = let l : length (c .before .before .before .before .before .before .tidied .result .held) ≡ 24 = search needs in omega (arith, length-take-le (c .before .before .before .before .before .before .tidied .result .carried) (c .before .before .before .before .before .before .tidied .result .held) (omega (arith, c .before .before .before .before .before .before .tidied .ensures .1, c .before .before .before .before .before .before .before .pre)), c .before .before .before .before .before .before .tidied .ensures .1, c .before .before .before .before .before .before .before .pre)
+put-held-requires : tie.Need-put-held-requires
+put-held-requires c κs = let l : length (c .before .before .before .before .before .before .before .before .tidied .result .held) ≡ 24 = search needs in omega (arith, length-take-le (c .before .before .before .before .before .before .before .before .tidied .result .carried) (c .before .before .before .before .before .before .before .before .tidied .result .held) (omega (arith, c .before .before .before .before .before .before .before .before .tidied .ensures .1, c .before .before .before .before .before .before .before .before .before .pre)), c .before .before .before .before .before .before .before .before .tidied .ensures .1, c .before .before .before .before .before .before .before .before .before .pre)
 
 returns : tie.Need-returns
 returns c =
-    let t = c .before .before .before .before .before .before .before .tidied in
+    let t = c .before .before .before .before .before .before .before .before .before .tidied in
     let m : length (t .result .numbers) ≡ 25 = search needs in
     let h : length (t .result .held) ≡ 24 = search needs in
-    stored (c .before .before .before .before .before .before .before .before .args .profile) (t .result) _ (c .before .before .before .before .number-of .result) (c .before .before .with-numbers .result) (c .with-held .result) (omega (arith, t .ensures .1, c .before .before .before .before .before .before .before .before .pre)) (omega (arith, t .ensures .1, c .before .before .before .before .before .before .before .before .pre)) m h (c .before .before .before .before .number-of .ensures) (c .before .before .with-numbers .ensures) (c .with-held .ensures) (t .ensures .0)
+    let n = c .before .before .before .before .before .before .number-of in
+    let l = c .before .before .before .before .before .before .before .before .before .before .pre in
+    stored (c .before .before .before .before .before .before .before .before .before .before .args .profile) (t .result) _ (n .result) _ _ (omega (arith, t .ensures .1, l)) (omega (arith, t .ensures .1, l)) m h (n .ensures) (c .before .before .before .put-numbers .ensures .1) (c .put-held .ensures .1) (t .ensures .0)
 
 pub store-spec : {M : Type 1} → statement M
 store-spec =
@@ -76,9 +78,9 @@ store-spec =
     array-write-words-6
     array-write-words-7
     array-share-prefix-numbers
-    slice-aggregate-with-numbers
-    with-numbers-requires
+    slice-aggregate-put-numbers
+    put-numbers-requires
     array-share-prefix-held
-    slice-aggregate-with-held
-    with-held-requires
+    slice-aggregate-put-held
+    put-held-requires
     returns)
