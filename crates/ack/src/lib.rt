@@ -9,9 +9,8 @@ ghost use Rattle.wire.specs.Numbers.{limit, encodeAll, allSmall};
 ghost use Rattle.frames.specs.Ack.{typeOf, countsOf};
 ghost use Rattle.frames.specs.declared.Tail.the-variants.{Nothing};
 ghost use Rattle.wire.specs.Bytes.{splice};
-ghost use Rattle.window.specs.Window.{places, valueOf, lentValue, runBelow};
 ghost use Rattle.seen.specs.Numbers.{small};
-ghost use Rattle.seen.specs.Received.{floor, marksFit, seenConsistent, reported};
+ghost use Rattle.seen.specs.Received.{floor, seenConsistent, reported};
 ghost use Rattle.ack.specs.Ack.{numberOfRanges, body, rangesKept, marksAnswer, marksBytes, ackAnswer, ackBytes};
 use frames::Tail;
 use seen::Micros;
@@ -39,20 +38,6 @@ impl Acked {
     {
         Acked { result, length: 0 }
     }
-}
-
-// Whether the marks of a window's words fit the end of L, told by the runs that a frame is made of.
-fn runs_fit(words: &[u64; 16], end: u64) -> bool
-    ensures { λ r. ⌜ r ≡ marksFit (lentValue (now (words .entry))) end ⌝ }
-{
-    let below = numbers::minus_or_zero(window::PLACES, end);
-    if window::run_below(words, below, false) != below {
-        return false;
-    }
-    if end == 0 {
-        return true;
-    }
-    window::run_below(words, window::PLACES, false) == 0
 }
 
 // The type of a frame with that tail (RFC 9000 19.3).
@@ -122,16 +107,6 @@ fn put_counts(tail: Tail, at: usize, buf: &mut [u8]) -> usize
     }
 }
 
-// Whether what was received is consistent, told by runs: the words are lent, and not copied as `consistent` would have to.
-fn consistent_by_runs(seen: Seen) -> bool
-    ensures { λ r. ⌜ r ≡ seenConsistent seen ⌝ }
-{
-    if !seen.numbers_obey() {
-        return false;
-    }
-    runs_fit(&seen.window.words, seen.end)
-}
-
 // Writes the ACK frame of all its marks, as many newest ranges as fit; 9 where not even the first does.
 fn write_marks(seen: Seen, time: Micros, tail: Tail, buf: &mut [u8]) -> Acked
     requires { ⌜ (seenConsistent seen ≡ true) × (0 < seen .end) × (small (time .0) ≡ true) × (allSmall (countsOf tail) ≡ true) ⌝ }
@@ -172,7 +147,7 @@ fn reported(seen: Seen) -> Seen
 pub fn write_ack(seen: Seen, time: Micros, tail: Tail, buf: &mut [u8]) -> Acked
     ensures { λ r. ⌜ (r ≡ ackAnswer seen time tail (now (buf .entry))) × (now (buf .exit) ≡ ackBytes seen time tail (now (buf .entry))) ⌝ }
 {
-    if !consistent_by_runs(seen) {
+    if !seen.consistent() {
         return Acked::refused(1);
     }
     if !numbers::is_small(time.0) {

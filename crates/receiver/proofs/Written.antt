@@ -8,7 +8,7 @@ use mathlib.Core.List.{List}
 use lib.ListN.{length}
 use Rattle.seen.specs.declared.Micros.{Micros}
 use Rattle.ack.specs.declared.Acked.{Acked}
-use Rattle.seen.specs.Received.{seenConsistent}
+use Rattle.seen.specs.Received.{numbersObey, marksConsistent, seenConsistent}
 use Rattle.ack.specs.Ack.{ackRefusal, ackFrame, acked, ackAnswer, ackBytes}
 use Rattle.seen.proofs.Tests.{by-test}
 use Rattle.receiver.specs.declared.Receiver.{Receiver}
@@ -26,6 +26,15 @@ module _ (r : Receiver) where
   pub rest-holds : restConsistent r ≡ true → seenConsistent (r .seen) ≡ consistent r
   unfolding consistent
   rest-holds e = by-test (seenConsistent (r .seen)) (λ t. rw (t, e)) (λ t. rw t)
+
+  -- and, where it holds, its numbers fail or its marks decide
+  pub numbers-fail : restConsistent r ≡ true → numbersObey (r .seen) ≡ false → consistent r ≡ false
+  unfolding seenConsistent
+  numbers-fail y e = sym (rest-holds y) ∙ rw e
+
+  pub marks-decide : restConsistent r ≡ true → numbersObey (r .seen) ≡ true → consistent r ≡ marksConsistent (r .seen)
+  unfolding seenConsistent
+  marks-decide y e = sym (rest-holds y) ∙ rw e
 
 module _ (r : Receiver) (bytes : List ℕ) where
   refusal-answered : (k : ℕ) → (acked k bytes .result ≡ 0 → ⊥) → record { result = acked k bytes .result; length = 0; next = r } ≡ answered k r bytes

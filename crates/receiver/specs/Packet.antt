@@ -1,6 +1,7 @@
 -- "Packet": refusals 1, 5, then 6 and 7; what an accepted packet raises; the causes count, order and congestion.
 use Prim.Native.Nat.{ℕ, zero, suc, _+_, _-_, _≤_, _<_, min, max}
 use mathlib.Core.Bool.{Bool, true, false, not, _&&_, _||_}
+use mathlib.Core.List.{List}
 use lib.Dec.{leb, ltb, eqb}
 use Rattle.wire.specs.Bytes.{pick}
 use Rattle.wire.specs.Numbers.{limit}
@@ -15,9 +16,28 @@ use Rattle.receiver.specs.declared.Answer.{Answer}
 use Rattle.ecn.specs.declared.Mark.{Mark}
 use Rattle.ecn.specs.Totals.{isCe, totalsAfter}
 use Rattle.seen.specs.Numbers.{small}
-use Rattle.seen.specs.Received.{numberRefusal, seenAfter, firstMissing, isAny}
+use Rattle.seen.specs.Received.{over, numberRefusal, seenAfter, firstMissing, isAny}
 use Rattle.ack.specs.Ack.{numberAt}
 use Rattle.receiver.specs.Record.{consistent}
+
+-- ---- a record and an answer whose window's words are lent beside them
+
+abbrev pub recordOver : List ℕ → Receiver → Receiver
+recordOver words r =
+    record {
+      seen = over words (r .seen);
+      pending = r .pending;
+      agreed = r .agreed;
+      limits = r .limits;
+      acknowledged = r .acknowledged;
+      highest = r .highest;
+      ce = r .ce;
+      cause = r .cause;
+      totals = r .totals;
+    }
+
+abbrev pub answerOver : List ℕ → Answer → Answer
+answerOver words a = record { result = a .result; next = recordOver words (a .next) }
 
 -- ---- refusals
 

@@ -145,7 +145,7 @@ impl Receiver {
         agreed.delay.0 <= numbers::minus_or_zero(time.0, pending.first.0)
     }
 
-    // Why the timer call is refused, or 0. The two halves of `consistent` are asked by themselves, so that in an archive with packet it has one caller and is taken in line.
+    // Why the timer call is refused, or 0. The two halves of `consistent` are asked by themselves: whole it has several callers, is left outside by the compiler, and has the record copied for it.
     fn timer_refusal(self, time: Micros) -> u64
         ensures { λ r. ⌜ r ≡ timerRefusal self time ⌝ }
     {

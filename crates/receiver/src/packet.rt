@@ -5,13 +5,15 @@ ghost use mathlib.Core.Bool.{true};
 ghost use Rattle.wire.specs.Bytes.{pick};
 ghost use Rattle.wire.specs.Numbers.{limit};
 ghost use Rattle.receiver.specs.Record.{consistent};
-ghost use Rattle.receiver.specs.Packet.{pendingAfter, packetAfter, packetCall};
+ghost use Rattle.receiver.specs.Packet.{recordOver, answerOver, packetRefusal, pendingAfter, packetAfter, packetCall};
 use crate::Answer;
 use crate::Pending;
 use crate::Receiver;
 use ecn::Mark;
 use seen::Micros;
+use seen::Seen;
 use seen::numbers;
+use window::Window;
 
 impl Pending {
     // With one ack-eliciting packet more; at 2^62 the count stays.
@@ -49,13 +51,43 @@ fn as_number(ce: bool) -> u64
 }
 
 impl Receiver {
-    // The record with an accepted packet.
-    fn with(self, number: u64, time: Micros, eliciting: bool, mark: Mark) -> Receiver
-        requires { ⌜ (number ≤ limit) × (consistent self ≡ true) ⌝ }
-        ensures { λ r. ⌜ r ≡ packetAfter self number time eliciting mark ⌝ }
+    // Why a packet is refused, or 0.
+    fn packet_refusal(self, words: &[u64; 16], number: u64, time: Micros) -> u64
+        ensures { λ r. ⌜ r ≡ packetRefusal (recordOver (now (words .entry)) self) number time ⌝ }
+    {
+        if !self.rest_consistent() {
+            return 1;
+        }
+        let seen = self.seen;
+        if !seen.numbers_obey() {
+            return 1;
+        }
+        if !seen.marks_fit(words) {
+            return 1;
+        }
+        if !numbers::is_small(number) {
+            return 5;
+        }
+        if !numbers::is_small(time.0) {
+            return 5;
+        }
+        seen.refusal_in(words, number)
+    }
+
+    // The record with an accepted packet, which is marked in the lent words.
+    fn with(
+        self,
+        words: &mut [u64; 16],
+        number: u64,
+        time: Micros,
+        eliciting: bool,
+        mark: Mark,
+    ) -> Receiver
+        requires { ⌜ (number ≤ limit) × (consistent (recordOver (now words) self) ≡ true) ⌝ }
+        ensures { λ r. ⌜ recordOver (now (words .exit)) r ≡ packetAfter (recordOver (now (words .entry)) self) number time eliciting mark ⌝ }
     {
         let before = self.seen;
-        let seen = before.with(number, time);
+        let seen = before.with_in(words, number, time);
         let earlier = self.totals;
         let totals = earlier.counted(mark);
         let ce = mark.is_ce();
@@ -78,7 +110,7 @@ impl Receiver {
         }
         let pending = waiting.with(number, time);
         let highest = numbers::larger_of(self.highest, number + 1);
-        let cause = self.cause_after(number, ce, seen, pending);
+        let cause = self.cause_after(words, number, ce, seen, pending);
         let agreed = self.agreed;
         let limits = self.limits;
         Receiver {
@@ -94,25 +126,49 @@ impl Receiver {
         }
     }
 
-    // A packet arrives: its number, its time, whether it is ack-eliciting, and its mark.
-    pub fn packet(self, number: u64, time: Micros, eliciting: bool, mark: Mark) -> Answer
-        ensures { λ r. ⌜ r ≡ packetCall self number time eliciting mark ⌝ }
+    // The packet call at the lent words of the window; the window of the record that it hands back is as it came.
+    fn packet_in(
+        self,
+        words: &mut [u64; 16],
+        number: u64,
+        time: Micros,
+        eliciting: bool,
+        mark: Mark,
+    ) -> Answer
+        ensures { λ r. ⌜ answerOver (now (words .exit)) r ≡ packetCall (recordOver (now (words .entry)) self) number time eliciting mark ⌝ }
     {
-        if !self.consistent() {
-            return Answer::refused(1, self);
-        }
-        if !numbers::is_small(number) {
-            return Answer::refused(5, self);
-        }
-        if !numbers::is_small(time.0) {
-            return Answer::refused(5, self);
-        }
-        let seen = self.seen;
-        let refusal = seen.refusal(number);
+        let refusal = self.packet_refusal(words, number, time);
         if refusal != 0 {
             return Answer::refused(refusal, self);
         }
-        let next = self.with(number, time, eliciting, mark);
+        let next = self.with(words, number, time, eliciting, mark);
         Answer { result: 0, next }
+    }
+
+    // A packet arrives: its number, its time, whether it is ack-eliciting, and its mark.
+    // The window's words are taken out once, lent to all that reads or marks them, and put back once: a window that goes by value is copied each time.
+    pub fn packet(self, number: u64, time: Micros, eliciting: bool, mark: Mark) -> Answer
+        ensures { λ r. ⌜ r ≡ packetCall self number time eliciting mark ⌝ }
+    {
+        let before = self.seen;
+        let window = before.window;
+        let mut words = window.words;
+        let answer = self.packet_in(&mut words, number, time, eliciting, mark);
+        let rest = answer.next;
+        let after = rest.seen;
+        let moved = Window { words };
+        let arrived = after.arrived;
+        let seen = Seen {
+            window: moved,
+            end: after.end,
+            arrived,
+            confirmed: after.confirmed,
+        };
+        let mut next = rest;
+        next.seen = seen;
+        Answer {
+            result: answer.result,
+            next,
+        }
     }
 }

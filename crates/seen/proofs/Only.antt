@@ -1,7 +1,8 @@
--- Only one: two results that meet the contract of a public function, as its source states it, are equal.
+-- Only one: two results that meet the contract of a public function, as its source states it, are equal, and so are the lent words that they leave.
 -- Assumes nothing.
 use mathlib.Core.Path.{sym, _∙_}
-use Rattle.wire.proofs.Only.{OneAnswer}
+use denote.Ref.{now}
+use Rattle.wire.proofs.Only.{OneAnswer, OneBuffer}
 use Rattle.seen.proofs.numbers.is_small.Reads as is-small
 use Rattle.seen.proofs.numbers.is_small.Kinds as is-small-kinds
 use Rattle.seen.proofs.numbers.all_small.Reads as all-small
@@ -26,6 +27,14 @@ use Rattle.seen.proofs.Seen.confirm.Reads as confirming
 use Rattle.seen.proofs.Seen.confirm.Kinds as confirming-kinds
 use Rattle.seen.proofs.Seen.first_missing.Reads as first-missing
 use Rattle.seen.proofs.Seen.first_missing.Kinds as first-missing-kinds
+use Rattle.seen.proofs.Seen.marks_fit.Reads as marks-fit
+use Rattle.seen.proofs.Seen.marks_fit.Kinds as marks-fit-kinds
+use Rattle.seen.proofs.Seen.refusal_in.Reads as refusal-in
+use Rattle.seen.proofs.Seen.refusal_in.Kinds as refusal-in-kinds
+use Rattle.seen.proofs.Seen.with_in.Reads as marking-in
+use Rattle.seen.proofs.Seen.with_in.Kinds as marking-in-kinds
+use Rattle.seen.proofs.Seen.first_missing_in.Reads as first-missing-in
+use Rattle.seen.proofs.Seen.first_missing_in.Kinds as first-missing-in-kinds
 
 pub is-small-one : OneAnswer 0 is-small-kinds.ps is-small-kinds.r is-small.Post
 is-small-one κs given x y s t p q = p ∙ sym q
@@ -62,3 +71,15 @@ confirming-one κs given x y s t p q = p ∙ sym q
 
 pub first-missing-one : OneAnswer 0 first-missing-kinds.ps first-missing-kinds.r first-missing.Post
 first-missing-one κs given x y s t p q = p ∙ sym q
+
+pub marks-fit-one : OneAnswer 1 marks-fit-kinds.ps marks-fit-kinds.r marks-fit.Post
+marks-fit-one κs given x y s t p q = p ∙ sym q
+
+pub refusal-in-one : OneAnswer 1 refusal-in-kinds.ps refusal-in-kinds.r refusal-in.Post
+refusal-in-one κs given x y s t p q = p ∙ sym q
+
+pub marking-in-one : OneBuffer 1 marking-in-kinds.ps marking-in-kinds.r (λ κs s. now (s .1 .0)) marking-in.Post
+marking-in-one κs given x y s t p q = (p .0 ∙ sym (q .0), p .1 ∙ sym (q .1))
+
+pub first-missing-in-one : OneAnswer 1 first-missing-in-kinds.ps first-missing-in-kinds.r first-missing-in.Post
+first-missing-in-one κs given x y s t p q = p ∙ sym q

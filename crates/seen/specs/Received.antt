@@ -2,6 +2,7 @@
 -- What may be absent is kept as an end, one past the number, and 0 for none.
 use Prim.Native.Nat.{ℕ, _+_, _-_, _/_, _^_, min, max}
 use mathlib.Core.Bool.{Bool, true, false, _&&_, _||_}
+use mathlib.Core.List.{List}
 use lib.Dec.{leb, ltb, eqb}
 use Rattle.wire.specs.Bytes.{pick}
 use Rattle.window.specs.Window.{places, valueOf, windowOf, isSet, withBit, noneBelow, clearedBelow, firstClear}
@@ -13,6 +14,10 @@ use Rattle.seen.specs.declared.Seen.{Seen}
 use Rattle.seen.specs.Numbers.{small, smallEnd}
 
 -- ---- the window
+
+-- what was received, its window's words being lent beside it
+abbrev pub over : List ℕ → Seen → Seen
+over words s = record { window = record { words = words }; end = s .end; arrived = s .arrived; confirmed = s .confirmed }
 
 -- "the floor, the larger of 0 and L - 1,023", where L's end is `end`
 abbrev pub floorOf : ℕ → ℕ
@@ -69,6 +74,10 @@ seenAfter s n time =
     pick (ltb n (s .end))
     (record { window = markAt (s .window) (placeOf (s .end) n); end = s .end; arrived = s .arrived; confirmed = s .confirmed })
     (record { window = markAt (moveOn (s .window) (n + 1 - s .end)) (places - 1); end = n + 1; arrived = time; confirmed = s .confirmed })
+
+-- a number that does not obey 5 changes nothing
+abbrev pub marked : Seen → ℕ → Micros → Seen
+marked s n time = pick (small n) (seenAfter s n time) s
 
 -- ---- "When a packet that carried our ACK with largest k is itself confirmed, [..] stop reporting numbers up to k" (02, No. 12)
 

@@ -1,6 +1,7 @@
 // What consistent means of what was received.
 ghost use mathlib.Core.Path.{_≡_};
-ghost use Rattle.seen.specs.Received.{numbersObey, marksConsistent, seenConsistent};
+ghost use Rattle.window.specs.Words.{numberOf};
+ghost use Rattle.seen.specs.Received.{numbersObey, marksFit, seenConsistent};
 use crate::Seen;
 use crate::numbers;
 
@@ -18,22 +19,21 @@ impl Seen {
         self.confirmed <= numbers::minus_or_zero(self.end, 1)
     }
 
-    fn marks_consistent(self) -> bool
-        ensures { λ r. ⌜ r ≡ marksConsistent self ⌝ }
+    // Whether the marks of the lent words fit the end of L. From 1,024 numbers on every place stands for one, and the words are not looked through.
+    pub fn marks_fit(self, words: &[u64; 16]) -> bool
+        ensures { λ r. ⌜ r ≡ marksFit (numberOf (now (words .entry))) (self .end) ⌝ }
     {
         let end = self.end;
-        let window = self.window;
-        if end == 0 {
-            return window.none_below(window::PLACES);
-        }
-        // From 1,024 numbers on every place stands for one, and the words are not looked through.
         if window::PLACES <= end {
-            return window.is_marked(window::LAST);
+            return window::is_marked(words, window::LAST);
         }
-        if !window.none_below(window::PLACES - end) {
+        if !window::none_below(words, window::PLACES - end) {
             return false;
         }
-        window.is_marked(window::LAST)
+        if end == 0 {
+            return true;
+        }
+        window::is_marked(words, window::LAST)
     }
 
     // Whether what was received is consistent. The window comes last: it costs most.
@@ -43,6 +43,7 @@ impl Seen {
         if !self.numbers_obey() {
             return false;
         }
-        self.marks_consistent()
+        let window = self.window;
+        self.marks_fit(&window.words)
     }
 }

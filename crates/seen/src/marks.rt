@@ -3,11 +3,12 @@ ghost use mathlib.Core.Path.{_≡_};
 ghost use Prim.Native.Nat.{_-_, _≤_};
 ghost use Rattle.wire.specs.Bytes.{pick};
 ghost use Rattle.seen.specs.Numbers.{small};
-ghost use Rattle.seen.specs.Received.{floor, placeOf, numberRefusal, seenAfter, confirmedAfter, firstMissing};
+ghost use Rattle.seen.specs.Received.{over, floor, placeOf, numberRefusal, seenAfter, marked, confirmedAfter, firstMissing};
 use crate::Micros;
 use crate::Seen;
 use crate::numbers;
 use window::Missing;
+use window::Window;
 
 // The place in the window of a number up to the end of L.
 fn place_of(end: u64, number: u64) -> u64
@@ -26,9 +27,9 @@ impl Seen {
         numbers::larger_of(self.confirmed, lowest)
     }
 
-    // 7 below the floor, 6 from it on and received, 0 for a number that can be accepted.
-    pub fn refusal(self, number: u64) -> u64
-        ensures { λ r. ⌜ r ≡ numberRefusal self number ⌝ }
+    // 7 below the floor, 6 from it on and marked in the lent words, 0 for a number that can be accepted.
+    pub fn refusal_in(self, words: &[u64; 16], number: u64) -> u64
+        ensures { λ r. ⌜ r ≡ numberRefusal (over (now (words .entry)) self) number ⌝ }
     {
         let end = self.end;
         if end <= number {
@@ -37,40 +38,56 @@ impl Seen {
         if number < self.floor() {
             return 7;
         }
-        let window = self.window;
-        if window.is_marked(place_of(end, number)) {
+        if window::is_marked(words, place_of(end, number)) {
             return 6;
         }
         0
+    }
+
+    // The same by the record's own words.
+    pub fn refusal(self, number: u64) -> u64
+        ensures { λ r. ⌜ r ≡ numberRefusal self number ⌝ }
+    {
+        let window = self.window;
+        self.refusal_in(&window.words, number)
+    }
+
+    // Marks the number in the lent words, and hands back the rest; L moves if it is exceeded. A number that does not obey 5 changes nothing.
+    pub fn with_in(self, words: &mut [u64; 16], number: u64, time: Micros) -> Seen
+        ensures { λ r. ⌜ (r ≡ over (self .window .words) (marked (over (now (words .entry)) self) number time))
+            × (now (words .exit) ≡ marked (over (now (words .entry)) self) number time .window .words) ⌝ }
+    {
+        if !numbers::is_small(number) {
+            return self;
+        }
+        let end = self.end;
+        if number < end {
+            window::mark(words, place_of(end, number));
+            return self;
+        }
+        let end_after = number + 1;
+        window::advance(words, end_after - end);
+        window::mark(words, window::LAST);
+        let mut next = self;
+        next.end = end_after;
+        next.arrived = time;
+        next
     }
 
     // With the number marked; L moves if it is exceeded. A number that does not obey 5 changes nothing.
     pub fn with(self, number: u64, time: Micros) -> Seen
         ensures { λ r. ⌜ r ≡ pick (small number) (seenAfter self number time) self ⌝ }
     {
-        if !numbers::is_small(number) {
-            return self;
-        }
-        let end = self.end;
         let window = self.window;
-        if number < end {
-            let next = window.mark(place_of(end, number));
-            let arrived = self.arrived;
-            return Seen {
-                window: next,
-                end,
-                arrived,
-                confirmed: self.confirmed,
-            };
-        }
-        let end_after = number + 1;
-        let moved = window.advanced(end_after - end);
-        let next = moved.mark(window::LAST);
+        let mut words = window.words;
+        let rest = self.with_in(&mut words, number, time);
+        let next = Window { words };
+        let arrived = rest.arrived;
         Seen {
             window: next,
-            end: end_after,
-            arrived: time,
-            confirmed: self.confirmed,
+            end: rest.end,
+            arrived,
+            confirmed: rest.confirmed,
         }
     }
 
@@ -89,9 +106,9 @@ impl Seen {
         next
     }
 
-    // The place of the first missing number of the window from `from` up to below `to`.
-    pub fn first_missing(self, from: u64, to: u64) -> Missing
-        ensures { λ r. ⌜ r ≡ firstMissing self from to ⌝ }
+    // The place of the first missing number of the lent words from `from` up to below `to`.
+    pub fn first_missing_in(self, words: &[u64; 16], from: u64, to: u64) -> Missing
+        ensures { λ r. ⌜ r ≡ firstMissing (over (now (words .entry)) self) from to ⌝ }
     {
         let end = self.end;
         let low = numbers::larger_of(from, self.floor());
@@ -99,7 +116,14 @@ impl Seen {
         if high <= low {
             return Missing::Nothing;
         }
+        window::first_missing(words, place_of(end, low), place_of(end, high))
+    }
+
+    // The same by the record's own words.
+    pub fn first_missing(self, from: u64, to: u64) -> Missing
+        ensures { λ r. ⌜ r ≡ firstMissing self from to ⌝ }
+    {
         let window = self.window;
-        window.first_missing(place_of(end, low), place_of(end, high))
+        self.first_missing_in(&window.words, from, to)
     }
 }

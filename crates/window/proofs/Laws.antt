@@ -3,9 +3,9 @@ use mathlib.Core.Path.{_≡_, refl, sym, ap, _∙_, subst}
 use mathlib.Core.Bool.{Bool, true, false}
 use mathlib.Core.Logic.{⊎-elim}
 use Prim.Native.Nat.{ℕ, zero, suc, _+_, _-_, _*_, _/_, _^_, _%_, _≤_, _<_, zero-le}
-use native.Mathlib.Nat.{not-suc-le-zero, le-of-suc-le-suc, eq-or-lt-of-le, add-comm, add-zero, one-mul, zero-mul, lt-of-lt-of-le, lt-of-le-of-lt, mod-eq-of-lt, mod-lt}
+use native.Mathlib.Nat.{not-suc-le-zero, le-of-suc-le-suc, eq-or-lt-of-le, add-comm, add-zero, one-mul, zero-mul, lt-of-lt-of-le, lt-of-le-of-lt, mod-eq-of-lt, mod-lt, le-refl}
 use native.Mathlib.Omega.{arith}
-use borrow.Author.Tests.{eq-eqb, eqb-true, eqb-false}
+use borrow.Author.Tests.{eq-eqb, ne-eqb, eqb-true, eqb-false}
 use lib.Dec.{eqb}
 use lib.Pow.{pow-mono, pow-pos, shr-le, shr-lt}
 use Rattle.window.specs.Words.{wordsOf, bit}
@@ -249,6 +249,22 @@ pub none-is : (p w : ℕ) → ((q : ℕ) → q < p → isSet w q ≡ false) → 
 none-is p w h =
     eq-eqb (w % 2 ^ p) 0
     (same-marks p (w % 2 ^ p) 0 (mod-lt w (pow-pos p)) (pow-pos p) (λ q l. low-mark w p q l ∙ h q l ∙ sym (zero-mark q)))
+
+-- the code asks whether the run of places that are not marked has them all
+pub none-by-run : (p w : ℕ) → eqb (runBelow false p w) p ≡ noneBelow p w
+none-by-run p w = go (noneBelow p w) refl
+  where
+    go : (b : Bool) → noneBelow p w ≡ b → eqb (runBelow false p w) p ≡ noneBelow p w
+    go true t =
+        let r : Run false p w p = record { within = le-refl p; has = λ q g l. none-says p w t q l; ends = λ l e. absurd (omega arith) } in
+        eq-eqb (runBelow false p w) p (run-is false p w p r) ∙ sym t
+    go false f =
+        ne-eqb (runBelow false p w) p
+        (λ e.
+        let t = none-is p w (λ q l. run-says false p w p e .has q (omega arith) l) in
+        let g : true ≡ false = sym t ∙ f in
+        let z : _≡_ {A = ℕ} 0 1 = cc in omega arith)
+        ∙ sym f
 
 -- an advance by d leaves no mark below p where there was none below p + d
 pub none-moved : (p d w : ℕ) → noneBelow (p + d) w ≡ true → noneBelow p (w / 2 ^ d) ≡ true

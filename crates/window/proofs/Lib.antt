@@ -6,6 +6,5 @@ pub mod Zeros
 pub mod Clear
 pub mod Shift
 pub mod Runs
-pub mod Low
 pub mod Laws
 pub mod Cleared

@@ -24,6 +24,10 @@ lent xs = record { long = length-in 16 xs; words = words-in 16 xs }
 pub lent-same : (ws : List ℕ) → Sixteen ws → wordsIn 16 ws ≡ ws
 lent-same ws h = subst (λ (n : ℕ). wordsIn n ws ≡ ws) (h .long) (in-words ws (h .words))
 
+-- sixteen words that are told to be such
+pub told : (ws : List ℕ) → wordsIn 16 ws ≡ ws → Sixteen ws
+told ws e = subst Sixteen e (lent ws)
+
 pub lent-value : (ws : List ℕ) → Sixteen ws → lentValue ws ≡ numberOf ws
 lent-value ws h = ap numberOf (lent-same ws h)
 

@@ -3,7 +3,7 @@
 // Searches go word by word: trailing zeros of the inverted words find the first missing number (01, "Code places and their forms").
 ghost use mathlib.Core.Path.{_≡_};
 ghost use Prim.Native.Nat.{_*_, _/_, _-_, _^_, _<_, _≤_};
-ghost use Rattle.window.specs.Words.{otherThan};
+ghost use Rattle.window.specs.Words.{numberOf, wordsOf, wordsIn, otherThan};
 ghost use Rattle.window.specs.Window.{places, valueOf, lentValue, windowOf, isSet, withBit, firstClear, runBelow, noneBelow, clearedBelow};
 
 // How many places a window has.
@@ -65,145 +65,146 @@ pub fn run_below(words: &[u64; 16], n: u64, marked: bool) -> u64
     n - PLACES + run_within(words, PLACES, false)
 }
 
+// Says that an array of words is sixteen words. It is for proofs, of what lies behind a reference and was copied out; no code is made of it.
+fn told_words(words: [u64; 16])
+    ensures { λ _. ⌜ wordsIn 16 words ≡ words ⌝ }
+{}
+
+// Whether a place is marked. No place from 1,024 on is.
+pub fn is_marked(words: &[u64; 16], place: u64) -> bool
+    ensures { λ r. ⌜ r ≡ isSet (numberOf (now (words .entry))) place ⌝ }
+{
+    let own = *words;
+    told_words(own);
+    if PLACES <= place {
+        return false;
+    }
+    let i = (place / 64) as usize;
+    let word = words[i];
+    let k = place % 64;
+    let bit = (word >> k) % 2;
+    bit == 1
+}
+
+// Marks a place. A place that is marked, or lies from 1,024 on, changes nothing.
+pub fn mark(words: &mut [u64; 16], place: u64)
+    ensures { λ _. ⌜ now (words .exit) ≡ wordsOf 16 (withBit (numberOf (now (words .entry))) place) ⌝ }
+{
+    let own = *words;
+    told_words(own);
+    if PLACES <= place {
+        return;
+    }
+    let i = (place / 64) as usize;
+    let k = place % 64;
+    let word = words[i];
+    let b = (word >> k) % 2;
+    if b == 1 {
+        return;
+    }
+    words[i] = word + (1 << k);
+}
+
+// Moves the marks q words down.
+fn words_down(words: &mut [u64; 16], q: usize)
+    ensures { λ _. ⌜ now (words .exit) ≡ wordsOf 16 (numberOf (now (words .entry)) / 2 ^ (64 * q)) ⌝ }
+{
+    let own = *words;
+    told_words(own);
+    let mut next = [0u64; 16];
+    for i in q..16 {
+        next[i - q] = own[i];
+    }
+    *words = next;
+}
+
+// Moves the marks s places down, less than a word.
+fn bits_down(words: &mut [u64; 16], s: u64)
+    requires { ⌜ s < 64 ⌝ }
+    ensures { λ _. ⌜ now (words .exit) ≡ wordsOf 16 (numberOf (now (words .entry)) / 2 ^ s) ⌝ }
+{
+    let own = *words;
+    told_words(own);
+    if s == 0 {
+        return;
+    }
+    for i in 0..15 {
+        words[i] = (own[i] >> s) + (own[i + 1] << (64 - s));
+    }
+    words[15] = own[15] >> s;
+}
+
+// Moves each mark d places down; those that would go below place 0 are dropped.
+pub fn advance(words: &mut [u64; 16], d: u64)
+    ensures { λ _. ⌜ now (words .exit) ≡ wordsOf 16 (numberOf (now (words .entry)) / 2 ^ d) ⌝ }
+{
+    let own = *words;
+    told_words(own);
+    if PLACES <= d {
+        let none = [0u64; 16];
+        *words = none;
+        return;
+    }
+    // Most packets come in order: a distance known to the compiler makes the shifts cheap.
+    if d == 1 {
+        bits_down(words, 1);
+        return;
+    }
+    let q = (d / 64) as usize;
+    let s = d % 64;
+    if q == 0 {
+        bits_down(words, s);
+        return;
+    }
+    words_down(words, q);
+    bits_down(words, s);
+}
+
+// The smallest place from `from` on and below `to` that is not marked.
+pub fn first_missing(words: &[u64; 16], from: u64, to: u64) -> Missing
+    ensures { λ r. ⌜ r ≡ firstClear (to - from) from (numberOf (now (words .entry))) ⌝ }
+{
+    let own = *words;
+    told_words(own);
+    if to <= from {
+        return Missing::Nothing;
+    }
+    let mut at = from;
+    while at < to {
+        if PLACES <= at {
+            return Missing::At(at);
+        }
+        let i = (at / 64) as usize;
+        let k = at % 64;
+        let word = words[i];
+        let rest = !word >> k;
+        if rest != 0 {
+            let place = at + u64::trailing_zeros(rest) as u64;
+            if place < to {
+                return Missing::At(place);
+            }
+            return Missing::Nothing;
+        }
+        at = at + (64 - k);
+    }
+    Missing::Nothing
+}
+
+// Whether no place below place p is marked: the run of places that are not has them all.
+pub fn none_below(words: &[u64; 16], p: u64) -> bool
+    ensures { λ r. ⌜ r ≡ noneBelow p (numberOf (now (words .entry))) ⌝ }
+{
+    let own = *words;
+    told_words(own);
+    run_below(words, p, false) == p
+}
+
 impl Window {
     // The window in which no place is marked.
     pub fn empty() -> Self
         ensures { λ r. ⌜ r ≡ windowOf 0 ⌝ }
     {
         Window { words: [0u64; 16] }
-    }
-
-    // Whether a place is marked. No place from 1,024 on is.
-    pub fn is_marked(self, place: u64) -> bool
-        ensures { λ r. ⌜ r ≡ isSet (valueOf self) place ⌝ }
-    {
-        if PLACES <= place {
-            return false;
-        }
-        let words = self.words;
-        let i = (place / 64) as usize;
-        let word = words[i];
-        let k = place % 64;
-        let bit = (word >> k) % 2;
-        bit == 1
-    }
-
-    // The window with a place marked. A place that is marked, or lies from 1,024 on, changes nothing.
-    pub fn mark(mut self, place: u64) -> Self
-        ensures { λ r. ⌜ r ≡ windowOf (withBit (valueOf self) place) ⌝ }
-    {
-        if PLACES <= place {
-            return self;
-        }
-        let i = (place / 64) as usize;
-        let k = place % 64;
-        let word = self.words[i];
-        let b = (word >> k) % 2;
-        if b == 1 {
-            return self;
-        }
-        self.words[i] = word + (1 << k);
-        self
-    }
-
-    // The window q words on.
-    fn words_down(self, q: usize) -> Self
-        ensures { λ r. ⌜ r ≡ windowOf (valueOf self / 2 ^ (64 * q)) ⌝ }
-    {
-        let words = self.words;
-        let mut next = [0u64; 16];
-        for i in q..16 {
-            next[i - q] = words[i];
-        }
-        Window { words: next }
-    }
-
-    // The window s places on, less than a word.
-    fn bits_down(self, s: u64) -> Self
-        requires { ⌜ s < 64 ⌝ }
-        ensures { λ r. ⌜ r ≡ windowOf (valueOf self / 2 ^ s) ⌝ }
-    {
-        if s == 0 {
-            return self;
-        }
-        let words = self.words;
-        let mut next = [0u64; 16];
-        for i in 0..15 {
-            next[i] = (words[i] >> s) + (words[i + 1] << (64 - s));
-        }
-        next[15] = words[15] >> s;
-        Window { words: next }
-    }
-
-    // The window d places on: each mark moves d places down, and those that would go below place 0 are dropped.
-    pub fn advanced(self, d: u64) -> Self
-        ensures { λ r. ⌜ r ≡ windowOf (valueOf self / 2 ^ d) ⌝ }
-    {
-        if PLACES <= d {
-            return Window::empty();
-        }
-        // Most packets come in order: a distance known to the compiler makes the shifts cheap.
-        if d == 1 {
-            return self.bits_down(1);
-        }
-        let q = (d / 64) as usize;
-        let s = d % 64;
-        if q == 0 {
-            return self.bits_down(s);
-        }
-        self.words_down(q).bits_down(s)
-    }
-
-    // The smallest place from `from` on and below `to` that is not marked.
-    pub fn first_missing(self, from: u64, to: u64) -> Missing
-        ensures { λ r. ⌜ r ≡ firstClear (to - from) from (valueOf self) ⌝ }
-    {
-        if to <= from {
-            return Missing::Nothing;
-        }
-        let words = self.words;
-        let mut at = from;
-        while at < to {
-            if PLACES <= at {
-                return Missing::At(at);
-            }
-            let i = (at / 64) as usize;
-            let k = at % 64;
-            let word = words[i];
-            let rest = !word >> k;
-            if rest != 0 {
-                let place = at + u64::trailing_zeros(rest) as u64;
-                if place < to {
-                    return Missing::At(place);
-                }
-                return Missing::Nothing;
-            }
-            at = at + (64 - k);
-        }
-        Missing::Nothing
-    }
-
-    // Whether no place below place p is marked.
-    pub fn none_below(self, p: u64) -> bool
-        ensures { λ r. ⌜ r ≡ noneBelow p (valueOf self) ⌝ }
-    {
-        if p == 0 {
-            return true;
-        }
-        let words = self.words;
-        let mut left = p;
-        for i in 0..16 {
-            let word = words[i];
-            if left < 64 {
-                let low = word % (1 << left);
-                return low == 0;
-            }
-            if word != 0 {
-                return false;
-            }
-            left = left - 64;
-        }
-        true
     }
 
     // The window without the marks below place p: whole words become 0, and one word loses its low bits.

@@ -30,7 +30,7 @@ abbrev entry : tie.Else2 → tie.Start
 entry c = c .before .before .before .before .before
 
 whole : (c : tie.Else2) → seenConsistent (entry c .args .seen) ≡ true
-whole c = held (c .before .before .before .consistent-by-runs .ensures) (c .before .before .if1 .left)
+whole c = held (c .before .before .before .consistent .ensures) (c .before .before .if1 .left)
 
 timely : (c : tie.Else2) → small (entry c .args .time .0) ≡ true
 timely c = held (c .before .is-small .ensures) (c .if2 .left)
@@ -46,8 +46,8 @@ as-reported : {s t : Seen} (time : Micros) (tail : Tail) (xs : List ℕ) {a : Ac
     → (a ≡ marksAnswer t time tail xs) × (ys ≡ marksBytes t time tail xs)
 as-reported time tail xs {a} {ys} e w = subst (λ (s : Seen). (a ≡ marksAnswer s time tail xs) × (ys ≡ marksBytes s time tail xs)) (sym e) w
 
-consistent-by-runs-requires : tie.Need-consistent-by-runs-requires
-consistent-by-runs-requires c κs = search needs
+consistent-requires : tie.Need-consistent-requires
+consistent-requires c κs = search needs
 
 refused-requires : tie.Need-refused-requires
 refused-requires c κs = search needs
@@ -56,7 +56,7 @@ returns : tie.Need-returns
 returns c =
     let i = c .before in
     let a = i .before .before .before .args in
-    let w = refused (a .seen) (a .time) (a .tail) (a .buf .now) 0 (gives-one _ _ _ _ (failed (i .before .consistent-by-runs .ensures) (i .if1 .taken))) in
+    let w = refused (a .seen) (a .time) (a .tail) (a .buf .now) 0 (gives-one _ _ _ _ (failed (i .before .consistent .ensures) (i .if1 .taken))) in
     (c .refused .ensures ∙ w .0, w .1)
 
 is-small-requires : tie.Need-is-small-requires
@@ -70,7 +70,7 @@ returns-2 c =
     let i = c .before in
     let a = i .before .before .before .before .before .args in
     let w = refused (a .seen) (a .time) (a .tail) (a .buf .now) 4
-    (gives-five _ _ _ _ (held (i .before .before .before .consistent-by-runs .ensures) (i .before .before .if1 .left)) (failed (i .before .is-small .ensures) (i .if2 .taken))) in
+    (gives-five _ _ _ _ (held (i .before .before .before .consistent .ensures) (i .before .before .if1 .left)) (failed (i .before .is-small .ensures) (i .if2 .taken))) in
     (c .refused2 .ensures ∙ w .0, w .1)
 
 counts-obey-requires : tie.Need-counts-obey-requires
@@ -151,7 +151,7 @@ pub write-ack-spec : {M : Type 1} → statement M
 write-ack-spec =
     tie.close
     (tie.spec
-    consistent-by-runs-requires
+    consistent-requires
     refused-requires
     returns
     is-small-requires

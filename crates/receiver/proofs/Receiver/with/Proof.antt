@@ -1,8 +1,9 @@
 -- `receiver::Receiver::with` meets its contract: each field is given as the definition says, and a consistent record keeps every number in range.
 -- Assumes nothing.
-use Prim.Native.Nat.{ℕ, _+_, _≤_, _<_}
-use mathlib.Core.Path.{_≡_, ap, _∙_}
-use mathlib.Core.Bool.{Bool, false}
+use Prim.Native.Nat.{ℕ, _+_, _≤_, _<_, max}
+use mathlib.Core.Path.{_≡_, refl, ap, ap₂, _∙_}
+use mathlib.Core.Bool.{Bool, true, false}
+use mathlib.Core.List.{List}
 use native.Mathlib.Omega.{arith}
 use borrow.Author.Tests.{not-true, not-false}
 use Rattle.wire.specs.Bytes.{pick}
@@ -10,23 +11,25 @@ use Rattle.seen.specs.declared.Micros.{Micros}
 use Rattle.seen.specs.declared.Seen.{Seen}
 use Rattle.ecn.specs.declared.Mark.{Mark}
 use Rattle.ecn.specs.declared.Totals.{Totals}
+use Rattle.receiver.specs.declared.Pending.{Pending}
 use Rattle.receiver.specs.declared.Receiver.{Receiver}
 use Rattle.ecn.specs.Totals.{isCe, totalsAfter}
-use Rattle.seen.specs.Received.{seenAfter}
+use Rattle.seen.specs.Received.{over, seenAfter}
 use Rattle.seen.proofs.After.{with-small}
-use Rattle.receiver.specs.Packet.{packetAfter}
+use Rattle.receiver.specs.Packet.{recordOver, pendingAfter, congestion, firstCause, causeAfter, packetAfter}
 use Rattle.receiver.proofs.Clauses.{consistent-exactly}
 use Rattle.receiver.proofs.Raised.{in-range}
 use borrow.Author.Needs.{needs}
 use Rattle.receiver.proofs.Receiver.with.Statement.{statement}
 use Rattle.receiver.proofs.Receiver.with.Tie as tie
 
-with-requires : tie.Need-with-requires
-with-requires c κs = search needs
+with-in-requires : tie.Need-with-in-requires
+with-in-requires c κs = search needs
 
 -- a number that obeys 5 is marked
-seen-with : (c : tie.After-with) → let a = c .before .before .args in c .with .result ≡ seenAfter (a .self .seen) (a .number) (a .time)
-seen-with c = c .with .ensures ∙ with-small _ _ _ (c .before .before .pre .0)
+seen-with : (c : tie.After-with-in) → let a = c .before .before .before .args in
+    over (c .with-in .last .1 .0) (c .with-in .result) ≡ seenAfter (over (a .words .now) (a .self .seen)) (a .number) (a .time)
+seen-with c = ap₂ over (c .with-in .ensures .1) (c .with-in .ensures .0) ∙ with-small _ _ _ (c .before .before .before .pre .0)
 
 counted-requires : tie.Need-counted-requires
 counted-requires c κs = search needs
@@ -69,16 +72,40 @@ plain r n time eliciting mark s last t i j l k =
     })
     k)
 
+-- an ack-eliciting one also what is pending, H and the cause
+more : (r : Receiver) (n : ℕ) (time : Micros) (eliciting : Bool) (mark : Mark) (s : Seen) (p : Pending) (h last cause : ℕ) (t : Totals)
+    → eliciting ≡ true → s ≡ seenAfter (r .seen) n time → p ≡ pendingAfter (r .pending) n time → h ≡ max (r .highest) (n + 1)
+    → last ≡ pick (isCe mark) 1 0 → cause ≡ causeAfter r n (isCe mark) s p → t ≡ totalsAfter (r .totals) mark
+    → record {
+      seen = s;
+      pending = p;
+      agreed = r .agreed;
+      limits = r .limits;
+      acknowledged = r .acknowledged;
+      highest = h;
+      ce = last;
+      cause = cause;
+      totals = t;
+    } ≡ packetAfter r n time eliciting mark
+unfolding packetAfter
+more r n time eliciting mark s p h last cause t i es ep eh el ec et = rw (i, ec, el, et, eh, ep, es)
+
+-- the cause looks at no word of the record's own window
+cause-over : (ws : List ℕ) (r : Receiver) (n : ℕ) (ce : Bool) (s : Seen) (p : Pending) → causeAfter r n ce s p ≡ causeAfter (recordOver ws r) n ce s p
+unfolding causeAfter firstCause congestion
+cause-over ws r n ce s p = refl
+
 returns : tie.Need-returns
 returns c =
     let n = c .before .before .before .before in
     let w = n .before .before .before .before in
-    plain _ _ _ _ _ _ _ _ (not-true (w .before .before .args .eliciting) (c .before .before .if1 .taken)) (seen-with w) (n .before .before .counted .ensures)
+    let a = w .before .before .before .args in
+    plain (recordOver (a .words .now) (a .self)) (a .number) (a .time) (a .eliciting) (a .mark) _ _ _ (not-true (a .eliciting) (c .before .before .if1 .taken)) (seen-with w) (n .before .before .counted .ensures)
     (n .as-number .ensures ∙ ap (λ (b : Bool). pick b 1 0) (n .before .is-ce .ensures))
 
-with-requires-2 : tie.Need-with-requires-2
-with-requires-2 c κs =
-    let s = c .before .before .before .before .before .before .before .before in
+with-requires : tie.Need-with-requires
+with-requires c κs =
+    let s = c .before .before .before .before .before .before .before .before .before in
     (s .pre .0, consistent-exactly _ .0 (s .pre .1) .count)
 
 add-larger-of : tie.Need-add-larger-of
@@ -89,29 +116,36 @@ larger-of-requires c κs = search needs
 
 cause-after-requires : tie.Need-cause-after-requires
 cause-after-requires c κs =
-    let n = c .before .before .before .before in
+    let n = c .before .before .before .before .before in
     let w = n .before .before .before .before in
-    let s = w .before .before in
+    let s = w .before .before .before in
     let a = s .args in
-    (s .pre .0, in-range (a .self) (a .number) (a .time) _ _ (s .pre .1) (s .pre .0) (seen-with w) (c .before .with2 .ensures))
+    let i = in-range (recordOver (a .words .now) (a .self)) (a .number) (a .time) _ _ (s .pre .1) (s .pre .0) (seen-with w) (c .before .before .with .ensures) in
+    (s .pre .0, record { some = i .some; unacknowledged = i .unacknowledged; largest = i .largest })
 
 returns-2 : tie.Need-returns-2
-unfolding packetAfter
 returns-2 c =
-    let n = c .before .before .before .before .before .before .before in
+    let k = c .before .before in
+    let n = k .before .before .before .before .before .before in
     let w = n .before .before .before .before in
-    rw (not-false (w .before .before .args .eliciting) (c .before .before .before .before .before .if1 .left), c .before .before .cause-after .ensures, c .before .before .before .larger-of .ensures, c .before .before .before .before .with2 .ensures, n .as-number .ensures, n .before .is-ce .ensures, n .before .before .counted .ensures, seen-with w)
+    let a = w .before .before .before .args in
+    let ws = a .words .now in
+    let s = over (w .with-in .last .1 .0) (w .with-in .result) in
+    let p = k .before .before .before .with .result in
+    more (recordOver ws (a .self)) (a .number) (a .time) (a .eliciting) (a .mark) s p _ _ _ _ (not-false (a .eliciting) (k .before .before .before .before .if1 .left)) (seen-with w)
+    (k .before .before .before .with .ensures) (k .before .before .larger-of .ensures) (n .as-number .ensures ∙ ap (λ (b : Bool). pick b 1 0) (n .before .is-ce .ensures))
+    (k .cause-after .ensures ∙ cause-over ws (a .self) (a .number) (n .before .is-ce .result) s p ∙ ap (λ (b : Bool). causeAfter (recordOver ws (a .self)) (a .number) b s p) (n .before .is-ce .ensures)) (n .before .before .counted .ensures)
 
 pub with-spec : {M : Type 1} → statement M
 with-spec =
     tie.close
     (tie.spec
-    with-requires
+    with-in-requires
     counted-requires
     is-ce-requires
     as-number-requires
     returns
-    with-requires-2
+    with-requires
     add-larger-of
     larger-of-requires
     cause-after-requires

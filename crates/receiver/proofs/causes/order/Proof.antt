@@ -2,6 +2,7 @@
 -- Assumes nothing.
 use mathlib.Core.Path.{_∙_}
 use native.Mathlib.Omega.{arith}
+use Rattle.seen.specs.Received.{over}
 use Rattle.receiver.specs.Packet.{order}
 use Rattle.receiver.proofs.Missing.{order-low, order-high}
 use borrow.Author.Needs.{needs}
@@ -29,13 +30,13 @@ returns-3 : tie.Need-returns-3
 returns-3 c =
     let a = c .before .before .before .args in
     let m = c .before .before .match .rest in
-    c .gap-reached .ensures ∙ order-low (a .seen) (a .reordering) (a .number) (a .highest) (a .acknowledged) (a .end) (omega (arith, m .1, m .0 .1)) (omega arith)
+    c .gap-reached .ensures ∙ order-low (over (a .words .now) (a .seen)) (a .reordering) (a .number) (a .highest) (a .acknowledged) (a .end) (omega (arith, m .1, m .0 .1)) (omega arith)
 
 returns-4 : tie.Need-returns-4
 returns-4 c =
     let a = c .before .before .before .args in
     let m = c .before .before .match .rest in
-    c .gap-reached2 .ensures ∙ order-high (a .seen) (a .reordering) (a .number) (a .highest) (a .acknowledged) (a .end) (omega (arith, m .1, m .0 .1))
+    c .gap-reached2 .ensures ∙ order-high (over (a .words .now) (a .seen)) (a .reordering) (a .number) (a .highest) (a .acknowledged) (a .end) (omega (arith, m .1, m .0 .1))
 
 pub order-spec : {M : Type 1} → statement M
 order-spec =

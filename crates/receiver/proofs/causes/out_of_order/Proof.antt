@@ -19,8 +19,8 @@ add-result c = search needs
 returns : tie.Need-returns
 returns c = not-beyond _ _ _ (c .if1 .taken)
 
-first-missing-requires : tie.Need-first-missing-requires
-first-missing-requires c κs = search needs
+first-missing-in-requires : tie.Need-first-missing-in-requires
+first-missing-in-requires c κs = search needs
 
 enum-told : tie.Need-enum-told
 enum-told c = search needs
@@ -34,13 +34,13 @@ above number highest l = le-ltb (number + 1) highest (omega arith)
 
 returns-2 : tie.Need-returns-2
 unfolding outOfOrder
-returns-2 c = rw (above _ _ (c .before .before .before .if1 .left)) (ap isAny (sym (c .enum-told .given .1) ∙ c .before .before .first-missing .ensures))
+returns-2 c = rw (above _ _ (c .before .before .before .if1 .left)) (ap isAny (sym (c .enum-told .given .1) ∙ c .before .before .first-missing-in .ensures))
 
 returns-3 : tie.Need-returns-3
 unfolding outOfOrder
-returns-3 c = rw (above _ _ (c .before .before .before .if1 .left)) (ap isAny (sym (c .enum-told2 .given .1) ∙ c .before .before .first-missing .ensures))
+returns-3 c = rw (above _ _ (c .before .before .before .if1 .left)) (ap isAny (sym (c .enum-told2 .given .1) ∙ c .before .before .first-missing-in .ensures))
 
 pub out-of-order-spec : {M : Type 1} → statement M
 out-of-order-spec =
     tie.close
-    (tie.spec add-result returns first-missing-requires enum-told enum-told-2 returns-2 returns-3)
+    (tie.spec add-result returns first-missing-in-requires enum-told enum-told-2 returns-2 returns-3)

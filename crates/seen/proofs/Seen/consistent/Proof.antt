@@ -13,12 +13,12 @@ returns : tie.Need-returns
 unfolding seenConsistent
 returns c = rw (failed (c .before .numbers-obey .ensures) (c .if1 .taken))
 
-marks-consistent-requires : tie.Need-marks-consistent-requires
-marks-consistent-requires c κs = search needs
+marks-fit-requires : tie.Need-marks-fit-requires
+marks-fit-requires c κs = search needs
 
 returns-2 : tie.Need-returns-2
 unfolding seenConsistent
-returns-2 c = rw (held (c .before .before .numbers-obey .ensures) (c .before .if1 .left)) (c .marks-consistent .ensures)
+returns-2 c = rw (held (c .before .before .before .before .before .numbers-obey .ensures) (c .before .before .before .before .if1 .left)) (c .marks-fit .ensures)
 
 pub consistent-spec : {M : Type 1} → statement M
-consistent-spec = tie.close (tie.spec numbers-obey-requires returns marks-consistent-requires returns-2)
+consistent-spec = tie.close (tie.spec numbers-obey-requires returns marks-fit-requires returns-2)

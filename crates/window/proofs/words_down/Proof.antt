@@ -1,25 +1,25 @@
--- `Window::words_down` meets its contract. The invariant: the words below `i` have moved, and the others are 0.
+-- `words_down` meets its contract. The invariant: the words below `i` have moved, and the others are 0.
 -- The measure is what is left of the words. Assumes nothing.
 use Prim.Native.Nat.{_-_, _≤_}
 use native.Mathlib.Nat.{le-refl}
 use native.Mathlib.Omega.{arith}
 use borrow.Author.Needs.{needs}
-use mir.Val.{Fits}
-use mir.Syntax.{w64}
-use lib.ListN.{getD}
-use Rattle.window.proofs.Sixteen.{Sixteen, as-window}
+use Rattle.window.proofs.Sixteen.{Sixteen, told}
 use Rattle.window.proofs.Shift.{Moving, moving-none, moving-more, moving-all}
-use Rattle.window.proofs.Window.words_down.Statement.{statement}
-use Rattle.window.proofs.Window.words_down.Tie as tie
+use Rattle.window.proofs.words_down.Statement.{statement}
+use Rattle.window.proofs.words_down.Tie as tie
 
 abbrev Inv-loop : tie.InvT-loop
-Inv-loop q words next₀ i₀ next i = (q ≤ i) × Moving words next q i
+Inv-loop words q own next₀ i₀ next i = (q ≤ i) × Moving own next q i
 
 abbrev μ-loop : tie.MeasureT-loop
-μ-loop q words next₀ i₀ next i = 16 - i
+μ-loop words q own next₀ i₀ next i = 16 - i
 
-known : (c : tie.Start Inv-loop μ-loop) → Sixteen (c .args .self .words)
-known c = record { long = search needs; words = λ i. let f : Fits w64 (getD (c .args .self .words) i 0) = search needs in f .fits }
+told-words-requires : tie.Need-told-words-requires Inv-loop μ-loop
+told-words-requires c κs = search needs
+
+known : (c : tie.After-told-words Inv-loop μ-loop) → Sixteen (c .before .before .args .words .now)
+known c = told _ (c .told-words .ensures)
 
 loop-holds : tie.Need-loop-holds Inv-loop μ-loop
 loop-holds c = (le-refl _, moving-none _ _)
@@ -53,7 +53,7 @@ loop-again c =
 returns : tie.Need-returns Inv-loop μ-loop
 returns c =
     let l = c .before in
-    as-window _ _ (moving-all _ (l .loop .next) _ (l .loop .i) (known (l .before .before)) (l .loop .inv .1) (c .loop-test .left))
+    moving-all _ (l .loop .next) _ (l .loop .i) (known (l .before)) (l .loop .inv .1) (c .loop-test .left)
 
 pub words-down-spec : {M : Type 1} → statement M
 words-down-spec =
@@ -61,6 +61,7 @@ words-down-spec =
     (tie.spec
     Inv-loop
     μ-loop
+    told-words-requires
     loop-holds
     mul-next
     array-read-next

@@ -1,11 +1,11 @@
--- `seen::Seen::refusal` meets its contract: its tests are the definition's, in its order.
+-- `seen::Seen::refusal_in` meets its contract: its tests are the definition's, in its order.
 -- Assumes nothing.
 use borrow.Author.Tests.{le-leb, lt-leb, lt-ltb, le-ltb}
 use Rattle.seen.specs.Received.{numberRefusal}
 use Rattle.seen.proofs.Tests.{told, denied}
 use borrow.Author.Needs.{needs}
-use Rattle.seen.proofs.Seen.refusal.Statement.{statement}
-use Rattle.seen.proofs.Seen.refusal.Tie as tie
+use Rattle.seen.proofs.Seen.refusal_in.Statement.{statement}
+use Rattle.seen.proofs.Seen.refusal_in.Tie as tie
 
 returns : tie.Need-returns
 unfolding numberRefusal
@@ -26,14 +26,14 @@ is-marked-requires c κs = search needs
 
 returns-3 : tie.Need-returns-3
 unfolding numberRefusal
-returns-3 c = rw (lt-leb _ _ (c .before .before .before .before .before .before .if1 .left), ← c .before .before .before .before .before .floor .ensures, le-ltb _ _ (c .before .before .before .before .if2 .left), ← c .before .before .place-of .ensures, told (c .before .is-marked .ensures) (c .if3 .taken))
+returns-3 c = rw (lt-leb _ _ (c .before .before .before .before .before .if1 .left), ← c .before .before .before .before .floor .ensures, le-ltb _ _ (c .before .before .before .if2 .left), ← c .before .before .place-of .ensures, told (c .before .is-marked .ensures) (c .if3 .taken))
 
 returns-4 : tie.Need-returns-4
 unfolding numberRefusal
-returns-4 c = rw (lt-leb _ _ (c .before .before .before .before .before .before .if1 .left), ← c .before .before .before .before .before .floor .ensures, le-ltb _ _ (c .before .before .before .before .if2 .left), ← c .before .before .place-of .ensures, denied (c .before .is-marked .ensures) (c .if3 .left))
+returns-4 c = rw (lt-leb _ _ (c .before .before .before .before .before .if1 .left), ← c .before .before .before .before .floor .ensures, le-ltb _ _ (c .before .before .before .if2 .left), ← c .before .before .place-of .ensures, denied (c .before .is-marked .ensures) (c .if3 .left))
 
-pub refusal-spec : {M : Type 1} → statement M
-refusal-spec =
+pub refusal-in-spec : {M : Type 1} → statement M
+refusal-in-spec =
     tie.close
     (tie.spec
     returns
