@@ -106,7 +106,7 @@ fn made(group: u64, object: u64, status: Status, age: u64) -> Entry
 // The largest age that four bytes hold.
 const LARGEST_AGE: u64 = 4294967295;
 
-// Whether what comes behind the object number obeys its rule. The oldest age of a status is worked out, 0 for the second one alone, and not
+// Whether what comes behind the object number obeys its rule. The oldest age of a status is worked out, 0 for status 2 alone, and not
 // asked for by a test, since no processor can foretell the status of a record.
 pub(crate) fn rest_good(status: u64, zeros: u64, age: u64) -> bool
     requires { ⌜ age ≤ 4294967295 ⌝ }
