@@ -19,14 +19,8 @@ use Rattle.seen.proofs.Seen.consistent.Reads as consistent
 use Rattle.seen.proofs.Seen.consistent.Kinds as consistent-kinds
 use Rattle.seen.proofs.Seen.floor.Reads as floor
 use Rattle.seen.proofs.Seen.floor.Kinds as floor-kinds
-use Rattle.seen.proofs.Seen.refusal.Reads as refusal
-use Rattle.seen.proofs.Seen.refusal.Kinds as refusal-kinds
-use Rattle.seen.proofs.Seen.with.Reads as marking
-use Rattle.seen.proofs.Seen.with.Kinds as marking-kinds
 use Rattle.seen.proofs.Seen.confirm.Reads as confirming
 use Rattle.seen.proofs.Seen.confirm.Kinds as confirming-kinds
-use Rattle.seen.proofs.Seen.first_missing.Reads as first-missing
-use Rattle.seen.proofs.Seen.first_missing.Kinds as first-missing-kinds
 use Rattle.seen.proofs.Seen.marks_fit.Reads as marks-fit
 use Rattle.seen.proofs.Seen.marks_fit.Kinds as marks-fit-kinds
 use Rattle.seen.proofs.Seen.refusal_in.Reads as refusal-in
@@ -60,17 +54,8 @@ consistent-one κs given x y s t p q = p ∙ sym q
 pub floor-one : OneAnswer 0 floor-kinds.ps floor-kinds.r floor.Post
 floor-one κs given x y s t p q = p ∙ sym q
 
-pub refusal-one : OneAnswer 0 refusal-kinds.ps refusal-kinds.r refusal.Post
-refusal-one κs given x y s t p q = p ∙ sym q
-
-pub marking-one : OneAnswer 0 marking-kinds.ps marking-kinds.r marking.Post
-marking-one κs given x y s t p q = p ∙ sym q
-
 pub confirming-one : OneAnswer 0 confirming-kinds.ps confirming-kinds.r confirming.Post
 confirming-one κs given x y s t p q = p ∙ sym q
-
-pub first-missing-one : OneAnswer 0 first-missing-kinds.ps first-missing-kinds.r first-missing.Post
-first-missing-one κs given x y s t p q = p ∙ sym q
 
 pub marks-fit-one : OneAnswer 1 marks-fit-kinds.ps marks-fit-kinds.r marks-fit.Post
 marks-fit-one κs given x y s t p q = p ∙ sym q

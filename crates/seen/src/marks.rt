@@ -3,12 +3,11 @@ ghost use mathlib.Core.Path.{_≡_};
 ghost use Prim.Native.Nat.{_-_, _≤_};
 ghost use Rattle.wire.specs.Bytes.{pick};
 ghost use Rattle.seen.specs.Numbers.{small};
-ghost use Rattle.seen.specs.Received.{over, floor, placeOf, numberRefusal, seenAfter, marked, confirmedAfter, firstMissing};
+ghost use Rattle.seen.specs.Received.{over, floor, placeOf, numberRefusal, marked, confirmedAfter, firstMissing};
 use crate::Micros;
 use crate::Seen;
 use crate::numbers;
 use window::Missing;
-use window::Window;
 
 // The place in the window of a number up to the end of L.
 fn place_of(end: u64, number: u64) -> u64
@@ -44,14 +43,6 @@ impl Seen {
         0
     }
 
-    // The same by the record's own words.
-    pub fn refusal(self, number: u64) -> u64
-        ensures { λ r. ⌜ r ≡ numberRefusal self number ⌝ }
-    {
-        let window = self.window;
-        self.refusal_in(&window.words, number)
-    }
-
     // Marks the number in the lent words, and hands back the rest; L moves if it is exceeded. A number that does not obey 5 changes nothing.
     pub fn with_in(self, words: &mut [u64; 16], number: u64, time: Micros) -> Seen
         ensures { λ r. ⌜ (r ≡ over (self .window .words) (marked (over (now (words .entry)) self) number time))
@@ -72,23 +63,6 @@ impl Seen {
         next.end = end_after;
         next.arrived = time;
         next
-    }
-
-    // With the number marked; L moves if it is exceeded. A number that does not obey 5 changes nothing.
-    pub fn with(self, number: u64, time: Micros) -> Seen
-        ensures { λ r. ⌜ r ≡ pick (small number) (seenAfter self number time) self ⌝ }
-    {
-        let window = self.window;
-        let mut words = window.words;
-        let rest = self.with_in(&mut words, number, time);
-        let next = Window { words };
-        let arrived = rest.arrived;
-        Seen {
-            window: next,
-            end: rest.end,
-            arrived,
-            confirmed: rest.confirmed,
-        }
     }
 
     // With numbers up to k reported no more: the floor rises to k + 1, or to L where k is L, and never falls.
@@ -117,13 +91,5 @@ impl Seen {
             return Missing::Nothing;
         }
         window::first_missing(words, place_of(end, low), place_of(end, high))
-    }
-
-    // The same by the record's own words.
-    pub fn first_missing(self, from: u64, to: u64) -> Missing
-        ensures { λ r. ⌜ r ≡ firstMissing self from to ⌝ }
-    {
-        let window = self.window;
-        self.first_missing_in(&window.words, from, to)
     }
 }
