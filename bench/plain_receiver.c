@@ -1,5 +1,5 @@
 /* The receiver by hand from document 01: the same answers and refusals as the archive, and no proof. */
-#include "plain_write.h"
+#include "plain_record.h"
 
 lumbixet_answer plain_open(uint64_t threshold, uint64_t reordering, uint64_t maximum_ms, uint64_t minimum_us)
 {
@@ -87,12 +87,4 @@ lumbixet_answer plain_confirm(lumbixet_receiver receiver, uint64_t largest)
     else
         receiver.confirmed = largest;
     return (lumbixet_answer){result, receiver};
-}
-
-lumbixet_wrote plain_write(lumbixet_receiver receiver, uint64_t time_us, bool counts, uint8_t *buffer, size_t length)
-{
-    uint64_t written, result = put_ack(&receiver, time_us, counts, buffer, length, &written);
-    if (result == LUMBIXET_ACCEPTED)
-        settle(&receiver);
-    return (lumbixet_wrote){result, written, receiver};
 }

@@ -1,14 +1,12 @@
 /* The ACK frame by hand in one walk over the window: an edge is a place whose mark differs from that of the place below it,
- * so the edges of a word from the highest down are the ends of its runs, one after the other. */
-#ifndef PLAIN_WRITE_H
-#define PLAIN_WRITE_H
-
+ * so the edges of a word from the highest down are the ends of its runs, one after the other. It has a file of its own:
+ * beside it in one file the compiler lays plain C's packet out slower, and the packet's rows would flatter the archive. */
 #include "plain_record.h"
 
 enum { MOST_IN_A_BYTE = 63 }; /* the largest range count that takes one byte */
 
 /* The edges of word i, where no place below `least` counts as marked. */
-static inline uint64_t edges(const uint64_t *words, size_t i, uint64_t least)
+static uint64_t edges(const uint64_t *words, size_t i, uint64_t least)
 {
     size_t lowest = least / 64;
     uint64_t word = i == lowest ? words[i] & ~UINT64_C(0) << least % 64 : words[i];
@@ -17,12 +15,12 @@ static inline uint64_t edges(const uint64_t *words, size_t i, uint64_t least)
 }
 
 /* A gap or a length, which are below 1,024. */
-static inline size_t small_width(uint64_t value)
+static size_t small_width(uint64_t value)
 {
     return value < 64 ? 1 : 2;
 }
 
-static inline uint8_t *store_small(uint8_t *p, uint64_t value)
+static uint8_t *store_small(uint8_t *p, uint64_t value)
 {
     if (value < 64) {
         *p = (uint8_t)value;
@@ -42,7 +40,7 @@ struct pairs {
 
 /* Stores the pairs of gap and length below the first range, which begins at place `first`: at most so many, and as many
  * as fit before `limit`. */
-static inline struct pairs store_pairs(const uint64_t *words, uint64_t first, uint64_t least, uint64_t most, uint8_t *p,
+static struct pairs store_pairs(const uint64_t *words, uint64_t first, uint64_t least, uint64_t most, uint8_t *p,
                                        const uint8_t *limit)
 {
     size_t i = first / 64;
@@ -73,7 +71,7 @@ static inline struct pairs store_pairs(const uint64_t *words, uint64_t first, ui
 
 /* Writes the frame at the start of the buffer: its refusal, or 0 and its length. Only the first range and the counts can
  * be refused for room, so whatever else fits is stored as it is found. */
-static inline uint64_t put_ack(const lumbixet_receiver *r, uint64_t time_us, bool counts, uint8_t *buffer, size_t length,
+static uint64_t put_ack(const lumbixet_receiver *r, uint64_t time_us, bool counts, uint8_t *buffer, size_t length,
                                uint64_t *written)
 {
     *written = 0;
@@ -106,7 +104,7 @@ static inline uint64_t put_ack(const lumbixet_receiver *r, uint64_t time_us, boo
 }
 
 /* What a written ACK changes in the record. */
-static inline void settle(lumbixet_receiver *r)
+static void settle(lumbixet_receiver *r)
 {
     r->acknowledged = r->end;
     r->pending_end = 0;
@@ -114,4 +112,19 @@ static inline void settle(lumbixet_receiver *r)
     r->cause = LUMBIXET_NOT_DUE;
 }
 
-#endif
+lumbixet_wrote plain_write(lumbixet_receiver receiver, uint64_t time_us, bool counts, uint8_t *buffer, size_t length)
+{
+    uint64_t written, result = put_ack(&receiver, time_us, counts, buffer, length, &written);
+    if (result == LUMBIXET_ACCEPTED)
+        settle(&receiver);
+    return (lumbixet_wrote){result, written, receiver};
+}
+
+lumbixet_wrote_lent plain_write_lent(lumbixet_receiver *receiver, uint64_t time_us, bool counts, uint8_t *buffer,
+                                     size_t length)
+{
+    uint64_t written, result = put_ack(receiver, time_us, counts, buffer, length, &written);
+    if (result == LUMBIXET_ACCEPTED)
+        settle(receiver);
+    return (lumbixet_wrote_lent){result, written};
+}
