@@ -6,15 +6,19 @@ use crate::tally::Tally;
 use crate::{compare_codec, compare_counts, compare_forms, compare_limits, compare_newest, compare_pieces, compare_profiles};
 use crate::{compare_ranges, compare_receiver, compare_report, compare_sent, compare_totals, compare_tracker};
 
+/// So many rounds cut every report at every single place, which takes a call for each byte of it.
+const CUT_EVERYWHERE: usize = 100;
+
 /// Each round takes a made-up record through all calls, goes on with a grown one, and reads and writes frames and a report.
 /// Some rounds take a report through all its longer forms, some through the counts of entries at the limit, some through what
 /// the profiles tell apart, some through the search for the newest lost object, some take the records of the tracker, of the
 /// sending side and of the reader in pieces through their calls, and some a week's totals. Every report that is read is also
-/// read in parts. The first rounds write a window of each number of ranges.
+/// read in parts, in the first rounds cut at every single place. The first rounds write a window of each number of ranges, too.
 pub fn run(count: usize) -> Result<(), String> {
     let mut random = Random::from_seed(2);
     let mut tally = Tally::default();
     for round in 0..count {
+        tally.cuts_everywhere = round < CUT_EVERYWHERE;
         compare_receiver::made_up(&mut random, &mut tally)?;
         compare_receiver::grown(&mut random, &mut tally)?;
         compare_codec::round(&mut random, &mut tally)?;

@@ -3,6 +3,7 @@
 
 use crate::archive::{lumbixet_pieces_end, lumbixet_pieces_open, lumbixet_pieces_take, raw_header};
 use crate::archive::{Pieces as Raw, PiecesTaken, Report};
+use crate::compare_cuts::compare_everywhere;
 use crate::compare_report::named;
 use crate::made_up_pieces::{break_clause, consistent, other_word, pieces_of, raw_after, CLAUSES};
 use crate::made_up_report::{profile_of, report};
@@ -161,7 +162,7 @@ fn to_be_delivered(profile: Profile, bytes: &[u8]) -> &[u8] {
 }
 
 /// Header, entries and refusal number are the whole reader's.
-fn judge(profile: u64, bytes: &[u8], came: &[u8], end: &Report) -> Result<(), String> {
+pub fn judge(profile: u64, bytes: &[u8], came: &[u8], end: &Report) -> Result<(), String> {
     let whole = match read_report(profile, bytes) {
         Ok((header, _)) => Report { result: ACCEPTED, header: raw_header(&header) },
         Err(result) => Report { result, ..Report::default() },
@@ -213,31 +214,17 @@ fn any_parts<'a>(random: &mut Random, bytes: &'a [u8]) -> Vec<&'a [u8]> {
     parts
 }
 
-/// Every report of the other comparisons comes here: cut at random places, and some of them at every single place and byte by byte.
+/// Every report of the other comparisons comes here: cut at random places, some of them byte by byte, and those of the first
+/// rounds, and of the others some, at every single place.
 pub fn compare_cut(random: &mut Random, tally: &mut Tally, profile: u64, bytes: &[u8]) -> Result<(), String> {
     let parts = any_parts(random, bytes);
     compare_parts(random, tally, profile, bytes, parts.into_iter())?;
-    // long reports have more places, and come less often
-    if random.below(20 + bytes.len() as u64 * bytes.len() as u64 / 40) < 4 {
-        everywhere(random, tally, profile, bytes)?;
+    if random.below(20 + bytes.len() as u64) < 2 {
+        compare_parts(random, tally, profile, bytes, bytes.chunks(1))?;
     }
-    Ok(())
-}
-
-/// Cut in two at every single place, at times with an empty part between; and byte by byte.
-fn everywhere(random: &mut Random, tally: &mut Tally, profile: u64, bytes: &[u8]) -> Result<(), String> {
-    compare_parts(random, tally, profile, bytes, bytes.chunks(1))?;
-    for place in 0..=bytes.len() {
-        let (front, behind) = bytes.split_at(place);
-        let parts = [front, &[], behind];
-        let skip_the_empty_one = random.chance(500);
-        let parts = parts.into_iter().filter(|part| !(part.is_empty() && skip_the_empty_one));
-        compare_parts(random, tally, profile, bytes, parts)?;
+    if tally.cuts_everywhere || random.below(256) == 0 {
+        compare_everywhere(random, tally, profile, bytes)?;
     }
-    let entries = bytes.len() > 60 && read_report(profile, bytes).is_ok();
-    tally.note("an accepted report with entries cut at every place", entries);
-    tally.note("a report of 1,000 bytes cut at every place", bytes.len() >= 1000);
-    tally.note("a refused report cut at every place", read_report(profile, bytes).is_err() && profile <= 2);
     Ok(())
 }
 

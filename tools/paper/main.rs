@@ -15,6 +15,8 @@ mod compare_codec;
 #[cfg(archive)]
 mod compare_counts;
 #[cfg(archive)]
+mod compare_cuts;
+#[cfg(archive)]
 mod compare_forms;
 #[cfg(archive)]
 mod compare_lent;
