@@ -16,12 +16,11 @@ use Rattle.report.specs.declared.Report.{Report}
 use Rattle.uncut.specs.State.{State, reportAt, atEnd}
 use Rattle.uncut.specs.Step.{after, delivered}
 use Rattle.uncut.specs.Cutting.{taking}
-use Rattle.pieces.specs.Record.{profileOf, profileIn, standAt, stateIn, stateOf, wordsOf}
+use Rattle.pieces.specs.Record.{Moved, profileOf, profileIn, marksAt, standIn, stateIn, stateOf, wordsOf}
+use Rattle.pieces.specs.declared.Marks.{Marks}
 use Rattle.pieces.specs.Fitness.{standFit, consistent}
 use Rattle.pieces.specs.Serving.{Sits, Served}
 use Rattle.pieces.specs.Calls.{refusedReport, refusedAs, answerOf, takeRefusal, takenOf, stateAfter, givenOf, takeAnswer, takeAfter, takeBytes, endAnswer, endAfter}
-use Rattle.pieces.specs.declared.Stand.{Stand}
-use Rattle.pieces.specs.declared.Moved.{Moved}
 use Rattle.pieces.specs.declared.Taken.{Taken}
 use Rattle.pieces.proofs.Fits.{sits-consistent}
 use Rattle.uncut.proofs.Rows.{size-pos}
@@ -79,9 +78,9 @@ module _ (w : List ℕ) where
         )
 
   -- the code's test, of the words that it loaded
-  pub tested : (from : Stand) (t : Bool) → from ≡ standAt w → t ≡ ofProfile (getD w 0 0) false (λ p. standFit p from) → t ≡ consistent w
+  pub tested : (from : Marks) (t : Bool) → from ≡ marksAt w → t ≡ ofProfile (getD w 0 0) false (λ p. standFit p (standIn from w)) → t ≡ consistent w
   unfolding consistent
-  tested from t e f = f ∙ ap (λ (s : Stand). ofProfile (getD w 0 0) false (λ p. standFit p s)) e
+  tested from t e f = f ∙ ap (λ (m : Marks). ofProfile (getD w 0 0) false (λ p. standFit p (standIn m w))) e
 
-  pub sits-loaded : (from : Stand) (p : Profile) → from ≡ standAt w → p ≡ profileIn w → consistent w ≡ true → Sits p from
+  pub sits-loaded : (from : Marks) (p : Profile) → from ≡ marksAt w → p ≡ profileIn w → consistent w ≡ true → Sits p (standIn from w)
   sits-loaded from p e f g = rw (e, f) (sits-consistent w g)

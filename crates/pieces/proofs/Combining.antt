@@ -13,9 +13,8 @@ use Rattle.entries.specs.declared.Profile.{Profile}
 use Rattle.uncut.specs.State.{State}
 use Rattle.uncut.specs.Step.{delivered}
 use Rattle.uncut.specs.Cutting.{taking}
-use Rattle.pieces.specs.Record.{stateIn}
+use Rattle.pieces.specs.Record.{Moved, stateIn}
 use Rattle.pieces.specs.Serving.{Served, Past, Begun, Short}
-use Rattle.pieces.specs.declared.Moved.{Moved}
 use Rattle.pieces.proofs.Going.{served-then, taken-both, taken-last}
 use Rattle.uncut.proofs.Rows.{size-pos}
 

@@ -19,11 +19,9 @@ use Rattle.entries.specs.declared.Profile.the-variants.{One, Two}
 use Rattle.uncut.specs.State.{State, Numbers, Records, Counting, Refused, Accepted}
 use Rattle.uncut.specs.Step.{step, given, after, delivered}
 use Rattle.uncut.specs.Cutting.{stops, taking}
-use Rattle.pieces.specs.Record.{stateAs, stateIn}
+use Rattle.pieces.specs.Record.{Stand, Moved, stateAs, stateIn}
 use Rattle.pieces.specs.Reading.{still}
 use Rattle.pieces.specs.Serving.{Ready, Sits, Served, Short}
-use Rattle.pieces.specs.declared.Stand.{Stand}
-use Rattle.pieces.specs.declared.Moved.{Moved}
 use Rattle.pieces.proofs.Going.{served-chunk, served-still}
 use Rattle.pieces.proofs.Keeping.{ready-after}
 use Rattle.pieces.proofs.Filling.{Rowed, rowed-short}

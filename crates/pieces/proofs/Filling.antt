@@ -19,9 +19,7 @@ use Rattle.entries.specs.declared.Entry.the-variants.{Record, Ends, Broken, Oth
 use Rattle.uncut.specs.State.{State, Records, Counting}
 use Rattle.uncut.specs.Step.{groupIn, aboveIn, afterBad, recordJudged, recordGrown, recordGiven, step, given, after, delivered}
 use Rattle.uncut.specs.Cutting.{stops, taking}
-use Rattle.pieces.specs.Reading.{keyIn, keyOf}
-use Rattle.pieces.specs.declared.Key.{Key}
-use Rattle.pieces.specs.declared.Key.the-variants.{Good, Bad}
+use Rattle.pieces.specs.Reading.{Key, Good, Bad, keyIn, keyOf}
 use Rattle.uncut.proofs.Cuts.{after-append, delivered-append}
 use Rattle.pieces.proofs.Going.{taking-append}
 use Rattle.uncut.proofs.Rows.{size-pos}

@@ -22,10 +22,9 @@ use Rattle.entries.specs.declared.Profile.the-variants.{One, Two}
 use Rattle.report.specs.Layout.{atMetrics}
 use Rattle.report.specs.Header.{wantedOf}
 use Rattle.uncut.specs.State.{State, Numbers, Records, Counting, Refused, Accepted}
-use Rattle.pieces.specs.Record.{stateAs, stateIn, standAt, profileOf, numbersIn, heldIn}
+use Rattle.pieces.specs.Record.{Stand, stateAs, stateIn, standAt, profileOf, numbersIn, heldIn}
 use Rattle.pieces.specs.Fitness.{numbersFit, isEnds, canStand, fieldFit, rowsFit, fit, standFit, consistent}
 use Rattle.pieces.specs.Serving.{Ready, Sits}
-use Rattle.pieces.specs.declared.Stand.{Stand}
 use Rattle.pieces.proofs.Loading.{numbers-long, held-long}
 use Rattle.pieces.proofs.Stages.{at-numbers, at-records, at-counting, at-refused, at-accepted}
 

@@ -15,11 +15,9 @@ use Rattle.entries.specs.declared.Profile.{Profile}
 use Rattle.uncut.specs.State.{State}
 use Rattle.uncut.specs.Step.{step, given, after, delivered}
 use Rattle.uncut.specs.Cutting.{stops, taking}
-use Rattle.pieces.specs.Record.{stateIn}
+use Rattle.pieces.specs.Record.{Stand, Moved, stateIn}
 use Rattle.pieces.specs.Serving.{Sits, Went, Served}
 use Rattle.pieces.specs.Reading.{still}
-use Rattle.pieces.specs.declared.Stand.{Stand}
-use Rattle.pieces.specs.declared.Moved.{Moved}
 use Rattle.uncut.proofs.Cuts.{after-append, delivered-append}
 
 module _ (p : Profile) where

@@ -1,39 +1,44 @@
--- The key of a record, as the code finds it: the entry, then its order after the one before.
+-- The key of one record, as the code finds it: by a run of one.
 -- Assumes nothing.
-use Prim.Native.Nat.{ℕ, suc, _+_}
-use mathlib.Core.Path.{_≡_, refl, sym, ap, _∙_}
-use mathlib.Core.Logic.{_⊎_, ⊎-elim}
-use mathlib.Core.Bool.{Bool, true, false}
+use Prim.Native.Nat.{ℕ, _*_, _/_, _≤_}
+use mathlib.Core.Path.{_≡_, refl, sym, ap, ap₂, _∙_}
 use mathlib.Core.List.{List}
-use native.Mathlib.Numerals.{add-one}
-use borrow.Author.Tests.{eqb-false}
-use denote.Enum.Declared.{tagOf}
-use Rattle.wire.specs.Bytes.{pick}
-use Rattle.entries.specs.Entries.{entryOf, atOrAbove}
+use native.Mathlib.Nat.{mul-div-cancel-left}
+use native.Mathlib.Omega.{arith}
+use lib.ListN.{length, take, drop}
+use lib.Seq.{take-all}
+use Rattle.entries.specs.Profiles.{recordSize}
+use Rattle.entries.specs.Entries.{entryOf}
+use Rattle.entries.specs.Runs.{runTo, runFrom, runOf}
 use Rattle.entries.specs.declared.Profile.{Profile}
-use Rattle.entries.specs.declared.Status.{Status}
-use Rattle.entries.specs.declared.Entry.{Entry}
-use Rattle.entries.specs.declared.Entry.the-variants.{Record, Ends, Broken, OtherProfile}
-use Rattle.entries.proofs.Entry.{the-type}
-use Rattle.pieces.specs.Reading.{keyIn, keyOf}
-use Rattle.pieces.specs.declared.Key.the-variants.{Good, Bad}
+use Rattle.entries.specs.declared.Run.{Run}
+use Rattle.pieces.specs.Reading.{Key, Good, Bad, keyIn, keyOf}
+use Rattle.pieces.proofs.Rowing.{byKey, by-key}
+use Rattle.uncut.proofs.Rows.{size-pos}
 
-no-record : (e : Entry) (last above : ℕ) → (tagOf the-type e ≡ 1) ⊎ ((tagOf the-type e ≡ 2) ⊎ (tagOf the-type e ≡ 3)) → Bad ≡ keyIn last above e
-no-record (Record group object status age) last above t = ⊎-elim (λ z. absurd (eqb-false 0 1 refl z)) (⊎-elim (λ z. absurd (eqb-false 0 2 refl z)) (λ z. absurd (eqb-false 0 3 refl z))) t
-no-record Ends last above t = refl
-no-record Broken last above t = refl
-no-record OtherProfile last above t = refl
+module _ (p : Profile) (last above : ℕ) (r : List ℕ) (h : length r ≡ recordSize p) (q : Run) (e : q ≡ runOf p last above r) where
+  one : length r / recordSize p ≡ 1
+  one = let m : length r ≡ recordSize p * 1 = omega arith in ap (λ (n : ℕ). n / recordSize p) m ∙ mul-div-cancel-left 1 (size-pos p)
 
-module _ (p : Profile) (last above : ℕ) (r : List ℕ) (e : Entry) (f : e ≡ entryOf p r) where
-  pub key-none : (tagOf the-type e ≡ 1) ⊎ ((tagOf the-type e ≡ 2) ⊎ (tagOf the-type e ≡ 3)) → Bad ≡ keyOf p last above r
-  unfolding keyOf
-  key-none t = no-record e last above t ∙ ap (keyIn last above) f
+  walked : q ≡ byKey (keyOf p last above r) (λ g o. runTo 1 g o) (runTo 0 last above)
+  unfolding runFrom keyOf
+  walked =
+      e ∙ ap (λ (n : ℕ). runFrom p n 0 last above r) one ∙ by-key last above (entryOf p (take (recordSize p) r)) (λ g o. runTo 1 g o) (runTo 0 last above)
+      ∙ ap (λ (x : List ℕ). byKey (keyIn last above (entryOf p x)) (λ g o. runTo 1 g o) (runTo 0 last above)) (take-all (recordSize p) r (omega arith))
 
-  module _ (group object age : ℕ) (status : Status) (g : e ≡ Record group object status age) where
-    pub key-order : atOrAbove last above group object ≡ false → Bad ≡ keyOf p last above r
-    unfolding keyOf
-    key-order o = sym (ap (keyIn last above) (sym f ∙ g) ∙ ap (λ (b : Bool). pick b (Good group (suc object)) Bad) o)
+  found : (k : Key) → keyOf p last above r ≡ k → q ≡ byKey k (λ g o. runTo 1 g o) (runTo 0 last above)
+  found k f = walked ∙ ap (λ (x : Key). byKey x (λ g o. runTo 1 g o) (runTo 0 last above)) f
 
-    pub key-good : atOrAbove last above group object ≡ true → Good group (object + 1) ≡ keyOf p last above r
-    unfolding keyOf
-    key-good o = sym (ap (keyIn last above) (sym f ∙ g) ∙ ap (λ (b : Bool). pick b (Good group (suc object)) Bad) o ∙ ap (Good group) (sym (add-one object)))
+  pub key-bad : q .good ≡ 0 → keyOf p last above r ≡ Bad
+  key-bad z = go (keyOf p last above r) refl
+    where
+      go : (k : Key) → keyOf p last above r ≡ k → keyOf p last above r ≡ Bad
+      go (Good g o) f = let y : q .good ≡ 1 = ap (λ (x : Run). x .good) (found (Good g o) f) in absurd (omega arith)
+      go Bad f = f
+
+  pub key-good : (q .good ≡ 0 → ⊥) → keyOf p last above r ≡ Good (q .last) (q .above)
+  key-good n = go (keyOf p last above r) refl
+    where
+      go : (k : Key) → keyOf p last above r ≡ k → keyOf p last above r ≡ Good (q .last) (q .above)
+      go (Good g o) f = f ∙ sym (ap₂ Good (ap (λ (x : Run). x .last) (found (Good g o) f)) (ap (λ (x : Run). x .above) (found (Good g o) f)))
+      go Bad f = absurd (n (ap (λ (x : Run). x .good) (found Bad f)))

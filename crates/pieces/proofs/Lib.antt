@@ -7,6 +7,7 @@ pub mod Stages
 pub mod Prefix
 pub mod Keeping
 pub mod Encoding
+pub mod Laying
 pub mod Numbering
 pub mod Fits
 pub mod Steps

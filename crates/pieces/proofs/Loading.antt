@@ -2,12 +2,11 @@
 -- Assumes nothing.
 use Prim.Native.Nat.{ℕ, zero, suc, _+_, _-_, _%_, _≤_, _<_}
 use mathlib.Core.Path.{_≡_, refl, sym, ap, _∙_}
-use mathlib.Core.List.{List, [], _∷_, _++_, append-assoc}
+use mathlib.Core.List.{List, [], _∷_, _++_}
 use native.Mathlib.Nat.{add-zero, zero-add, add-suc, suc-add}
 use native.Mathlib.Numerals.{add-one}
 use native.Mathlib.Omega.{arith}
-use lib.ListN.{length, getD, take, drop, set}
-use Rattle.wire.specs.Bytes.{splice}
+use lib.ListN.{length, getD, take, set}
 use Rattle.report.specs.Header.{each}
 use lib.Seq.{take-suc, take-suc-set, take-all, paste, length-paste, take-paste}
 use Rattle.pieces.specs.Record.{numbersIn, heldIn}
@@ -16,9 +15,6 @@ use Rattle.pieces.specs.Record.{numbersIn, heldIn}
 
 turn : (to from : List ℕ) (i : ℕ) → i < length to → i < length from → take i to ≡ take i from → take (i + 1) (set to i (getD from i 0)) ≡ take (i + 1) from
 turn to from i h l e = rw (add-one, take-suc-set to i (getD from i 0) h, take-suc from i 0 l, e)
-
-done : (to from : List ℕ) (i : ℕ) → length to ≡ length from → length from ≤ i → take i to ≡ take i from → to ≡ from
-done to from i h l e = sym (take-all i to (omega arith)) ∙ e ∙ take-all i from l
 
 -- ---- one for each place
 
@@ -48,24 +44,14 @@ module _ (w : List ℕ) where
   unfolding heldIn
   byte-at i l = each-at 24 0 (λ i. getD w (32 + i) 0 % 256) i l ∙ ap (λ (k : ℕ). getD w (32 + k) 0 % 256) (zero-add i)
 
-  pub numbers-turn : (to : List ℕ) (i : ℕ) → length to ≡ 25 → i < 25 → take i to ≡ take i (numbersIn w) → take (i + 1) (set to i (getD w (7 + i) 0)) ≡ take (i + 1) (numbersIn w)
-  numbers-turn to i e l t = ap (λ (x : ℕ). take (i + 1) (set to i x)) (sym (number-at i l)) ∙ turn to (numbersIn w) i (omega arith) (omega (arith, numbers-long)) t
-
-  pub numbers-done : (to : List ℕ) (i : ℕ) → length to ≡ 25 → 25 ≤ i → take i to ≡ take i (numbersIn w) → to ≡ numbersIn w
-  numbers-done to i e l t = done to (numbersIn w) i (e ∙ sym numbers-long) (omega (arith, numbers-long)) t
-
   pub held-turn : (to : List ℕ) (i : ℕ) → length to ≡ 24 → i < 24 → take i to ≡ take i (heldIn w) → take (i + 1) (set to i (getD w (32 + i) 0 % 256)) ≡ take (i + 1) (heldIn w)
   held-turn to i e l t = ap (λ (x : ℕ). take (i + 1) (set to i x)) (sym (byte-at i l)) ∙ turn to (heldIn w) i (omega arith) (omega (arith, held-long)) t
 
-  pub held-done : (to : List ℕ) (i : ℕ) → length to ≡ 24 → 24 ≤ i → take i to ≡ take i (heldIn w) → to ≡ heldIn w
-  held-done to i e l t = done to (heldIn w) i (e ∙ sym held-long) (omega (arith, held-long)) t
+  -- each is a byte
+  pub first-octet : getD (heldIn w) 0 0 < 256
+  first-octet = omega (arith, byte-at 0 (omega arith))
 
 -- ---- a list laid over another
-
-pub pasted : (xs : List ℕ) (at : ℕ) (ys : List ℕ) (i : ℕ) (zs : List ℕ) → i ≤ length ys → length ys ≤ i → zs ≡ paste xs at ys i → zs ≡ splice xs at ys
-pasted xs at ys i zs h l e =
-    let n : i ≡ length ys = omega arith in
-    e ∙ ap (λ (k : ℕ). paste xs at ys k) n ∙ ap (λ (x : List ℕ). take at xs ++ x ++ drop (at + length ys) xs) (take-all (length ys) ys (omega arith)) ∙ append-assoc (take at xs) ys (drop (at + length ys) xs)
 
 pub laid-behind : (held : List ℕ) (carried : ℕ) (more : List ℕ) (i : ℕ) (next : List ℕ) → length held ≡ 24 → carried + length more ≤ 24 → i ≤ length more → length more ≤ i → next ≡ paste held carried more i
     → (length next ≡ 24) × (take (carried + length more) next ≡ take carried held ++ more)

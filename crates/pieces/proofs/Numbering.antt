@@ -21,11 +21,9 @@ use Rattle.report.proofs.Following.{wanted-most}
 use Rattle.uncut.specs.State.{State, Numbers, Records, Counting, Refused, Accepted}
 use Rattle.uncut.specs.Step.{withNumber, after, delivered}
 use Rattle.uncut.specs.Cutting.{taking}
-use Rattle.pieces.specs.Record.{stateAs, stateIn}
+use Rattle.pieces.specs.Record.{Stand, Moved, stateAs, stateIn}
 use Rattle.pieces.specs.Reading.{movedTo}
 use Rattle.pieces.specs.Serving.{Ready, Sits, Served, Past}
-use Rattle.pieces.specs.declared.Stand.{Stand}
-use Rattle.pieces.specs.declared.Moved.{Moved}
 use Rattle.uncut.proofs.Grown.{never-value, value-there, value-place, still-there}
 use Rattle.pieces.proofs.Prefix.{read-prefix, ends-short, Behind}
 use Rattle.pieces.proofs.Going.{Chunk, chunk-none, chunk-then, served-chunk}

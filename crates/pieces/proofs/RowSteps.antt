@@ -17,15 +17,11 @@ use Rattle.entries.specs.Profiles.{recordSize}
 use Rattle.entries.specs.declared.Profile.{Profile}
 use Rattle.uncut.specs.State.{State, Numbers, Records, Counting, Refused, Accepted}
 use Rattle.uncut.specs.Step.{afterBad, after, delivered}
-use Rattle.pieces.specs.Record.{stateAs, stateIn}
-use Rattle.pieces.specs.Reading.{keyOf, countedOn, rowHere, still}
+use Rattle.pieces.specs.Record.{Stand, Moved, stateAs, stateIn}
+use Rattle.pieces.specs.Reading.{Key, Good, Bad, keyOf, countedOn, rowHere, still}
 use Rattle.pieces.specs.Serving.{Ready, Sits, Served, Past, Begun, Short}
-use Rattle.pieces.specs.declared.Key.{Key}
-use Rattle.pieces.specs.declared.Key.the-variants.{Good, Bad}
 use Rattle.entries.specs.Runs.{runFrom}
 use Rattle.entries.specs.declared.Run.{Run}
-use Rattle.pieces.specs.declared.Stand.{Stand}
-use Rattle.pieces.specs.declared.Moved.{Moved}
 use Rattle.pieces.proofs.Filling.{Rowed, keyed, keyGiven, rowed-whole}
 use Rattle.pieces.proofs.Rowing.{rowed-then, RowDone, Found, found}
 use Rattle.uncut.proofs.Rows.{size-pos}

@@ -14,9 +14,7 @@ use Rattle.entries.specs.declared.Profile.{Profile}
 use Rattle.uncut.specs.State.{State, Records}
 use Rattle.uncut.specs.Step.{after, delivered}
 use Rattle.uncut.specs.Cutting.{taking}
-use Rattle.pieces.specs.Reading.{keyIn, keyOf}
-use Rattle.pieces.specs.declared.Key.{Key}
-use Rattle.pieces.specs.declared.Key.the-variants.{Good, Bad}
+use Rattle.pieces.specs.Reading.{Key, Good, Bad, keyIn, keyOf}
 use Rattle.entries.specs.Entries.{entryOf, atOrAbove, followsOr}
 use Rattle.entries.specs.Runs.{runTo, runFrom}
 use Rattle.entries.specs.declared.Entry.{Entry}
@@ -32,7 +30,7 @@ abbrev pub byKey : {A : Type 0} → Key → (ℕ → ℕ → A) → A → A
 byKey (Good group above) f x = f group above
 byKey Bad f x = x
 
-by-key : {A : Type 0} (last above : ℕ) (e : Entry) (f : ℕ → ℕ → A) (x : A) → followsOr last above e f x ≡ byKey (keyIn last above e) f x
+pub by-key : {A : Type 0} (last above : ℕ) (e : Entry) (f : ℕ → ℕ → A) (x : A) → followsOr last above e f x ≡ byKey (keyIn last above e) f x
 by-key last above (Record g o status age) f x = go (atOrAbove last above g o)
   where
     go : (b : Bool) → pick b (f g (suc o)) x ≡ byKey (pick b (Good g (suc o)) Bad) f x

@@ -8,11 +8,10 @@ use native.Mathlib.Omega.{arith}
 use borrow.Author.Tests.{eq-eqb, ne-eqb}
 use lib.Dec.{eqb}
 use Rattle.wire.specs.Bytes.{pick}
-use Rattle.report.specs.Header.{headerOf}
-use Rattle.report.specs.declared.Report.{Report}
-use Rattle.uncut.specs.State.{State, Numbers, Records, Counting, Refused, Accepted, reportAt, atEnd}
+use Rattle.report.specs.Header.{headerOf, emptyHeader}
+use Rattle.uncut.specs.State.{State, Numbers, Records, Counting, Refused, Accepted, standing, headerAt, atEnd}
 use Rattle.pieces.specs.Record.{stateAs, bodyAs, bodyOf}
-use Rattle.pieces.specs.Calls.{refusedReport, wholeAt}
+use Rattle.pieces.specs.Calls.{wholeAt}
 
 module _ (stage left last above : ℕ) (ns held : List ℕ) where
   pub at-numbers : stage ≡ 0 → stateAs stage left last above ns held ≡ Numbers ns held
@@ -48,22 +47,44 @@ module _ (stage left last above : ℕ) (ns held : List ℕ) where
         go true = refl
         go false = refl
 
-    pub report-other : reportAt (stateAs stage left last above ns held) ≡ record { refusal = 0; header = headerOf ns }
-    unfolding stateAs
-    report-other = rw (ne-eqb stage 0 a, ne-eqb stage 2 c, ne-eqb stage 3 d) (go (eqb stage 1))
-      where
-        go : (b : Bool) → reportAt (pick b (Records ns left last above held) (Accepted ns)) ≡ record { refusal = 0; header = headerOf ns }
-        go true = refl
-        go false = refl
+-- the header is handed over where it is whole, and only there
+pub header-whole : (stage left last above : ℕ) (ns held : List ℕ) → (wholeAt (stateAs stage left last above ns held) ≡ 0 → ⊥) → headerAt (stateAs stage left last above ns held) ≡ headerOf ns
+unfolding stateAs
+header-whole stage left last above ns held n = go left (eqb stage 0) (eqb stage 1) (eqb stage 2) (eqb stage 3) n
+  where
+    go : (k : ℕ) (a b c d : Bool) → (wholeAt (pick a (Numbers ns held) (pick b (Records ns k last above held) (pick c (Counting ns k) (pick d (Refused k) (Accepted ns))))) ≡ 0 → ⊥)
+        → headerAt (pick a (Numbers ns held) (pick b (Records ns k last above held) (pick c (Counting ns k) (pick d (Refused k) (Accepted ns))))) ≡ headerOf ns
+    go k true b c d n = absurd (n refl)
+    go k false true c d n = refl
+    go zero false false true d n = absurd (n refl)
+    go (suc k) false false true d n = refl
+    go k false false false true n = absurd (n refl)
+    go k false false false false n = refl
+
+pub header-none : (stage left last above : ℕ) (ns held : List ℕ) → wholeAt (stateAs stage left last above ns held) ≡ 0 → headerAt (stateAs stage left last above ns held) ≡ emptyHeader
+unfolding stateAs
+header-none stage left last above ns held e = go left (eqb stage 0) (eqb stage 1) (eqb stage 2) (eqb stage 3) e
+  where
+    one : {A : Type 0} → _≡_ {A = ℕ} 1 0 → A
+    one e = absurd (omega arith)
+
+    go : (k : ℕ) (a b c d : Bool) → wholeAt (pick a (Numbers ns held) (pick b (Records ns k last above held) (pick c (Counting ns k) (pick d (Refused k) (Accepted ns))))) ≡ 0
+        → headerAt (pick a (Numbers ns held) (pick b (Records ns k last above held) (pick c (Counting ns k) (pick d (Refused k) (Accepted ns))))) ≡ emptyHeader
+    go k true b c d e = refl
+    go k false true c d e = one e
+    go zero false false true d e = refl
+    go (suc k) false false true d e = one e
+    go k false false false true e = refl
+    go k false false false false e = one e
 
 -- the bytes are counted on, or all have come
 pub whole-counting : (ns : List ℕ) (left : ℕ) → (left ≡ 0 → ⊥) → wholeAt (Counting ns left) ≡ 1
 whole-counting ns zero h = absurd (h refl)
 whole-counting ns (suc n) h = refl
 
-pub report-counting : (ns : List ℕ) (left : ℕ) → (left ≡ 0 → ⊥) → reportAt (Counting ns left) ≡ record { refusal = 0; header = headerOf ns }
-report-counting ns zero h = absurd (h refl)
-report-counting ns (suc n) h = refl
+pub stands-counting : (ns : List ℕ) (left : ℕ) → (left ≡ 0 → ⊥) → standing (Counting ns left) ≡ 0
+stands-counting ns zero h = absurd (h refl)
+stands-counting ns (suc n) h = refl
 
 pub end-counting : (ns : List ℕ) (left : ℕ) → (left ≡ 0 → ⊥) → atEnd (Counting ns left) ≡ Refused 2
 unfolding atEnd

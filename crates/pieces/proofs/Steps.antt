@@ -19,13 +19,9 @@ use Rattle.entries.specs.declared.Profile.the-variants.{One, Two}
 use Rattle.uncut.specs.State.{State, Numbers, Records, Counting, Refused, Accepted}
 use Rattle.uncut.specs.Step.{afterBad, after, delivered}
 use Rattle.uncut.specs.Cutting.{taking}
-use Rattle.pieces.specs.Record.{stateAs, stateIn}
-use Rattle.pieces.specs.Reading.{keyOf, countedOn, completesOf, rowHere, still}
+use Rattle.pieces.specs.Record.{Stand, Moved, stateAs, stateIn}
+use Rattle.pieces.specs.Reading.{Key, Good, Bad, keyOf, countedOn, completesOf, rowHere, still}
 use Rattle.pieces.specs.Serving.{Ready, Sits, Went, Served, Past, Begun, Short}
-use Rattle.pieces.specs.declared.Key.{Key}
-use Rattle.pieces.specs.declared.Key.the-variants.{Good, Bad}
-use Rattle.pieces.specs.declared.Stand.{Stand}
-use Rattle.pieces.specs.declared.Moved.{Moved}
 use Rattle.pieces.proofs.Going.{went-chunk}
 use Rattle.pieces.proofs.Keeping.{ready-after}
 use Rattle.pieces.proofs.Filling.{Rowed, keyed, keyGiven, rowed-whole}

@@ -15,8 +15,7 @@ use Rattle.report.specs.Layout.{atMetrics}
 use Rattle.report.specs.Limits.{mostNumbers}
 use Rattle.report.specs.Header.{wantedOf}
 use Rattle.uncut.specs.State.{State, Numbers, Records, Counting, Refused, Accepted}
-use Rattle.pieces.specs.Record.{mostCarried, standAt, stateIn}
-use Rattle.pieces.specs.declared.Stand.{Stand}
+use Rattle.pieces.specs.Record.{Stand, mostCarried, standAt, stateIn}
 
 -- numbers of a header: none breaks 5, and no more metrics than the profile has
 unfoldable pub numbersFit : Profile → List ℕ → Bool

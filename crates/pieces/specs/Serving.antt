@@ -16,9 +16,7 @@ use Rattle.report.specs.Header.{wantedOf}
 use Rattle.uncut.specs.State.{State, Numbers, Records, Counting, Refused, Accepted}
 use Rattle.uncut.specs.Step.{after, delivered}
 use Rattle.uncut.specs.Cutting.{taking}
-use Rattle.pieces.specs.Record.{mostCarried, stateIn}
-use Rattle.pieces.specs.declared.Stand.{Stand}
-use Rattle.pieces.specs.declared.Moved.{Moved}
+use Rattle.pieces.specs.Record.{Stand, Moved, mostCarried, stateIn}
 
 -- what holds of a state that is served: what is carried is unfinished
 abbrev pub Ready : Profile → State → Type 0

@@ -1,23 +1,25 @@
 // The three calls.
 ghost use mathlib.Core.Path.{_≡_};
-ghost use mathlib.Core.List.{_∷_};
-ghost use Prim.Native.Nat.{_≤_};
+ghost use mathlib.Core.List.{List, _∷_};
+ghost use Prim.Native.Nat.{ℕ, _≤_};
 ghost use lib.ListN.{length};
-ghost use Rattle.uncut.specs.State.{start, reportAt, atEnd};
-ghost use Rattle.pieces.specs.Record.{stateIn, profileOf, bodyOf};
+ghost use Rattle.uncut.specs.State.{start, standing, headerAt, reportAt, atEnd};
+ghost use Rattle.pieces.specs.Record.{standIn, stateIn, profileOf, bodyOf};
 ghost use Rattle.pieces.specs.Calls.{refusedReport, wholeAt, openRefusal, openAfter, answerOf, refusedAs, takeAnswer, takeAfter, takeBytes, endAnswer, endAfter};
 use crate::ACCEPTED;
 use crate::AT_PROFILE;
+use crate::Marks;
 use crate::REFUSED;
-use crate::Stand;
 use crate::Taken;
 use crate::WORDS;
 use crate::fitness::consistent;
 use crate::rest::taken_in;
+use crate::words::come;
 use crate::words::loaded;
 use crate::words::store;
 use entries::Profile;
 use entries::record_size;
+use report::Header;
 use report::Report;
 use report::empty_header;
 use report::header_of;
@@ -40,35 +42,29 @@ fn refused(refusal: u64) -> Report
     Report { refusal, header }
 }
 
-// The refusal that stands and the empty header, or 0 and the header once it is whole.
-fn report_at(s: Stand) -> Report
-    requires { ⌜ s .count ≤ 25 ⌝ }
-    ensures { λ r. ⌜ r ≡ reportAt (stateIn s) ⌝ }
+// The refusal that stands, 0 for none.
+fn standing_at(s: Marks) -> u64
+    ensures { λ r. ⌜ ((w : List ℕ) → r ≡ standing (stateIn (standIn s w))) ⌝ }
 {
     let stage = s.stage;
     let left = s.left;
-    let count = s.count;
-    let numbers = s.numbers;
     match stage {
-        0 => refused(0),
+        0 => 0,
+        1 => 0,
         2 => {
             if left == 0 {
-                return refused(12);
+                return 12;
             }
-            let header = header_of(&numbers[..count]);
-            Report { refusal: 0, header }
+            0
         }
-        3 => refused(left),
-        _ => {
-            let header = header_of(&numbers[..count]);
-            Report { refusal: 0, header }
-        }
+        3 => left,
+        _ => 0,
     }
 }
 
 // 1 where the header is whole and no refusal stands.
-fn whole_at(s: Stand) -> u64
-    ensures { λ r. ⌜ r ≡ wholeAt (stateIn s) ⌝ }
+fn whole_at(s: Marks) -> u64
+    ensures { λ r. ⌜ ((w : List ℕ) → r ≡ wholeAt (stateIn (standIn s w))) ⌝ }
 {
     let stage = s.stage;
     match stage {
@@ -81,6 +77,29 @@ fn whole_at(s: Stand) -> u64
         }
         3 => 0,
         _ => 1,
+    }
+}
+
+// The header once it is whole, the empty one before and beside a refusal.
+fn header_at(s: Marks, state: &[u64; WORDS]) -> Header
+    requires { ⌜ s .count ≤ 25 ⌝ }
+    ensures { λ r. ⌜ r ≡ headerAt (stateIn (standIn s (now (state .entry)))) ⌝ }
+{
+    if whole_at(s) == 0 {
+        return empty_header();
+    }
+    header_of(come(state, s.count))
+}
+
+// The refusal that stands and the empty header, or 0 and the header once it is whole.
+fn report_at(s: Marks, state: &[u64; WORDS]) -> Report
+    requires { ⌜ s .count ≤ 25 ⌝ }
+    ensures { λ r. ⌜ r ≡ reportAt (stateIn (standIn s (now (state .entry)))) ⌝ }
+{
+    let header = header_at(s, state);
+    Report {
+        refusal: standing_at(s),
+        header,
     }
 }
 
@@ -99,14 +118,13 @@ fn nothing(refusal: u64) -> Taken
 }
 
 // What a call answers.
-fn answer(s: Stand, taken: usize, records: usize) -> Taken
+fn answer(s: Marks, state: &[u64; WORDS], taken: usize, records: usize) -> Taken
     requires { ⌜ s .count ≤ 25 ⌝ }
-    ensures { λ r. ⌜ r ≡ answerOf (stateIn s) taken records ⌝ }
+    ensures { λ r. ⌜ r ≡ answerOf (stateIn (standIn s (now (state .entry)))) taken records ⌝ }
 {
-    let found = report_at(s);
-    let header = found.header;
+    let header = header_at(s, state);
     Taken {
-        result: found.refusal,
+        result: standing_at(s),
         taken,
         records,
         whole: whole_at(s),
@@ -115,8 +133,8 @@ fn answer(s: Stand, taken: usize, records: usize) -> Taken
 }
 
 // Where the end leads to.
-fn ended(s: Stand) -> Stand
-    ensures { λ r. ⌜ (stateIn r ≡ atEnd (stateIn s)) × ((r .count ≡ s .count) × (r .carried ≡ s .carried)) ⌝ }
+fn ended(s: Marks) -> Marks
+    ensures { λ r. ⌜ ((w : List ℕ) → stateIn (standIn r w) ≡ atEnd (stateIn (standIn s w))) × ((r .count ≡ s .count) × (r .carried ≡ s .carried)) ⌝ }
 {
     let mut next = s;
     let stage = s.stage;
@@ -173,17 +191,18 @@ pub fn take(state: &mut [u64; WORDS], part: &[u8], out: &mut [u8]) -> Taken
     ensures { λ r. ⌜ (r ≡ takeAnswer (now (state .entry)) (now (part .entry)) (length (now (out .entry)))) × ((now (state .exit) ≡ takeAfter (now (state .entry)) (now (part .entry)) (length (now (out .entry)))) × (now (out .exit) ≡ takeBytes (now (state .entry)) (now (part .entry)) (now (out .entry)))) ⌝ }
 {
     let from = loaded(state);
-    if !consistent(state[AT_PROFILE], from) {
+    if !consistent(state[AT_PROFILE], from, state) {
         return nothing(1);
     }
     let profile = profile_of(state[AT_PROFILE]);
     if out.len() < record_size(profile) {
         return nothing(9);
     }
-    let moved = taken_in(profile, from, part, out);
+    let moved = taken_in(profile, from, state, part, out);
     let next = moved.now;
+    let told = answer(next, state, moved.taken, moved.records);
     store(state, profile, next);
-    answer(next, moved.taken, moved.records)
+    told
 }
 
 // The caller says the end: the report is accepted, or the refusal that it brings stands from then on.
@@ -191,11 +210,12 @@ pub fn end(state: &mut [u64; WORDS]) -> Report
     ensures { λ r. ⌜ (r ≡ endAnswer (now (state .entry))) × (now (state .exit) ≡ endAfter (now (state .entry))) ⌝ }
 {
     let from = loaded(state);
-    if !consistent(state[AT_PROFILE], from) {
+    if !consistent(state[AT_PROFILE], from, state) {
         return refused(1);
     }
     let profile = profile_of(state[AT_PROFILE]);
     let next = ended(from);
+    let told = report_at(next, state);
     store(state, profile, next);
-    report_at(next)
+    told
 }

@@ -4,17 +4,21 @@ ghost use mathlib.Core.List.{List, _++_};
 ghost use Prim.Native.Nat.{ℕ, _+_, _≤_, min};
 ghost use lib.ListN.{length, take, drop};
 ghost use Rattle.wire.specs.Numbers.{readNumber};
-ghost use Rattle.pieces.specs.Reading.{shifted, movedTo, still};
-ghost use Rattle.pieces.specs.Record.{stateIn};
+ghost use Rattle.pieces.specs.Reading.{shifted, walkedTo, stillAt};
+ghost use Rattle.pieces.specs.Record.{heldIn, standIn, stateIn, movedIn};
 ghost use Rattle.pieces.specs.Serving.{Sits, Served, Past};
+use crate::AT_NUMBERS;
 use crate::CARRIED;
-use crate::Moved;
+use crate::Marks;
 use crate::NUMBERS;
 use crate::RECORDS;
 use crate::REFUSED;
-use crate::Stand;
+use crate::WORDS;
+use crate::Walked;
+use crate::words::come;
+use crate::words::held_in;
+use crate::words::keep;
 use entries::Profile;
-use report::MOST_NUMBERS;
 use report::judge_field;
 use report::wanted;
 use wire::Number;
@@ -44,15 +48,16 @@ pub(crate) fn smaller_of(a: usize, b: usize) -> usize
 }
 
 // The field that begins with the bytes carried and goes on at at.
-fn next_field(held: [u8; CARRIED], carried: usize, part: &[u8], at: usize) -> Number
-    requires { ⌜ ((carried ≤ 8) × (at ≤ length (now part))) × (readNumber (take carried held) 0 ≡ Number.Ends) ⌝ }
-    ensures { λ r. ⌜ r ≡ shifted carried at (readNumber (take carried held ++ drop at (now (part .entry))) 0) ⌝ }
+fn next_field(state: &[u64; WORDS], carried: usize, part: &[u8], at: usize) -> Number
+    requires { ⌜ ((carried ≤ 8) × (at ≤ length (now part))) × (readNumber (take carried (heldIn (now state))) 0 ≡ Number.Ends) ⌝ }
+    ensures { λ r. ⌜ r ≡ shifted carried at (readNumber (take carried (heldIn (now (state .entry))) ++ drop at (now (part .entry))) 0) ⌝ }
 {
     if carried == 0 {
         return wire::read_number(part, at);
     }
     let more = smaller_of(LONGEST - carried, part.len() - at);
     let end = at + more;
+    let held = held_in(state, carried);
     let field = joined(held, carried, &part[at..end]);
     let length = carried + more;
     let Number::Value {
@@ -71,28 +76,18 @@ fn next_field(held: [u8; CARRIED], carried: usize, part: &[u8], at: usize) -> Nu
 }
 
 // A place where the header's numbers lead to.
-fn moved(
-    stage: u64,
-    left: u64,
-    count: usize,
-    numbers: [u64; MOST_NUMBERS],
-    carried: usize,
-    held: [u8; CARRIED],
-    taken: usize,
-) -> Moved
-    ensures { λ r. ⌜ r ≡ movedTo stage left count numbers carried held taken ⌝ }
+fn walked(stage: u64, left: u64, count: usize, carried: usize, taken: usize) -> Walked
+    ensures { λ r. ⌜ r ≡ walkedTo stage left count carried taken ⌝ }
 {
-    let now = Stand {
+    let now = Marks {
         stage,
         left,
         last: 0,
         above: 0,
         count,
         carried,
-        numbers,
-        held,
     };
-    Moved {
+    Walked {
         now,
         taken,
         records: 0,
@@ -100,13 +95,16 @@ fn moved(
 }
 
 // Takes the header's numbers, each judged as soon as it is whole by the step of the whole reader. What is left of a field is carried.
-pub(crate) fn take_numbers(profile: Profile, from: Stand, part: &[u8]) -> Moved
-    requires { ⌜ (Sits profile from) × (from .stage ≡ 0) ⌝ }
-    ensures { λ r. ⌜ ((out : List ℕ) → Served profile (stateIn from) (now (part .entry)) out r out) × Past (stateIn (r .now)) (drop (r .taken) (now (part .entry))) ⌝ }
+pub(crate) fn take_numbers(
+    profile: Profile,
+    from: Marks,
+    state: &mut [u64; WORDS],
+    part: &[u8],
+) -> Walked
+    requires { ⌜ (Sits profile (standIn from (now state))) × (from .stage ≡ 0) ⌝ }
+    ensures { λ r. ⌜ ((out : List ℕ) → Served profile (stateIn (standIn from (now (state .entry)))) (now (part .entry)) out (movedIn r (now (state .exit))) out) × Past (stateIn (standIn (r .now) (now (state .exit)))) (drop (r .taken) (now (part .entry))) ⌝ }
 {
-    let mut numbers = from.numbers;
     let mut count = from.count;
-    let held = from.held;
     let mut carried = from.carried;
     let mut at: usize = 0;
     while at < part.len() {
@@ -114,44 +112,49 @@ pub(crate) fn take_numbers(profile: Profile, from: Stand, part: &[u8]) -> Moved
             value,
             next,
             shortest,
-        } = next_field(held, carried, part, at)
+        } = next_field(state, carried, part, at)
         else {
             let end = carried + (part.len() - at);
-            let kept = joined(held, carried, &part[at..]);
-            return moved(NUMBERS, 0, count, numbers, end, kept, part.len());
+            keep(state, carried, &part[at..]);
+            return walked(NUMBERS, 0, count, end, part.len());
         };
-        let refusal = judge_field(profile, &numbers[..count], value, shortest);
+        let refusal = judge_field(profile, come(state, count), value, shortest);
         if refusal != 0 {
-            return moved(REFUSED, refusal, count, numbers, carried, held, next);
+            return walked(REFUSED, refusal, count, carried, next);
         }
-        numbers[count] = value;
+        state[AT_NUMBERS + count] = value;
         count += 1;
         carried = 0;
         at = next;
-        if wanted(profile, &numbers[..count]) <= count {
-            return moved(RECORDS, value, count, numbers, carried, held, at);
+        if wanted(profile, come(state, count)) <= count {
+            return walked(RECORDS, value, count, carried, at);
         }
     }
-    moved(NUMBERS, 0, count, numbers, carried, held, at)
+    walked(NUMBERS, 0, count, carried, at)
 }
 
 // The same where the header is whole already, or not.
-pub(crate) fn through_header(profile: Profile, from: Stand, part: &[u8]) -> Moved
-    requires { ⌜ Sits profile from ⌝ }
-    ensures { λ r. ⌜ ((out : List ℕ) → Served profile (stateIn from) (now (part .entry)) out r out) × Past (stateIn (r .now)) (drop (r .taken) (now (part .entry))) ⌝ }
+pub(crate) fn through_header(
+    profile: Profile,
+    from: Marks,
+    state: &mut [u64; WORDS],
+    part: &[u8],
+) -> Walked
+    requires { ⌜ Sits profile (standIn from (now state)) ⌝ }
+    ensures { λ r. ⌜ ((out : List ℕ) → Served profile (stateIn (standIn from (now (state .entry)))) (now (part .entry)) out (movedIn r (now (state .exit))) out) × Past (stateIn (standIn (r .now) (now (state .exit)))) (drop (r .taken) (now (part .entry))) ⌝ }
 {
     let stage = from.stage;
     if stage == NUMBERS {
-        return take_numbers(profile, from, part);
+        return take_numbers(profile, from, state, part);
     }
     as_it_was(from)
 }
 
 // No byte is taken.
-pub(crate) fn as_it_was(from: Stand) -> Moved
-    ensures { λ r. ⌜ r ≡ still from ⌝ }
+pub(crate) fn as_it_was(from: Marks) -> Walked
+    ensures { λ r. ⌜ r ≡ stillAt from ⌝ }
 {
-    Moved {
+    Walked {
         now: from,
         taken: 0,
         records: 0,

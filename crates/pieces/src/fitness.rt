@@ -3,9 +3,13 @@ ghost use mathlib.Core.Path.{_≡_};
 ghost use mathlib.Core.Bool.{false};
 ghost use lib.ListN.{length};
 ghost use Rattle.entries.specs.Profiles.{ofProfile};
+ghost use Rattle.pieces.specs.Record.{standIn};
 ghost use Rattle.pieces.specs.Fitness.{numbersFit, fieldFit, rowsFit, canStand, standFit};
 use crate::CARRIED;
-use crate::Stand;
+use crate::Marks;
+use crate::WORDS;
+use crate::words::come;
+use crate::words::held_in;
 use entries::MOST_ENTRIES;
 use entries::Profile;
 use entries::record_size;
@@ -74,8 +78,8 @@ fn can_stand(refusal: u64) -> bool
 }
 
 // Whether the words fit the profile.
-fn stand_fit(profile: Profile, s: Stand) -> bool
-    ensures { λ r. ⌜ r ≡ standFit profile s ⌝ }
+fn stand_fit(profile: Profile, s: Marks, state: &[u64; WORDS]) -> bool
+    ensures { λ r. ⌜ r ≡ standFit profile (standIn s (now (state .entry))) ⌝ }
 {
     let count = s.count;
     let carried = s.carried;
@@ -85,36 +89,35 @@ fn stand_fit(profile: Profile, s: Stand) -> bool
     if CARRIED < carried {
         return false;
     }
-    let numbers = s.numbers;
-    let held = s.held;
     let stage = s.stage;
     match stage {
         0 => {
-            if !numbers_fit(profile, &numbers[..count]) {
+            if !numbers_fit(profile, come(state, count)) {
                 return false;
             }
-            field_fit(profile, &numbers[..count], &held[..carried])
+            let held = held_in(state, carried);
+            field_fit(profile, come(state, count), &held[..carried])
         }
         1 => {
-            if !numbers_fit(profile, &numbers[..count]) {
+            if !numbers_fit(profile, come(state, count)) {
                 return false;
             }
             rows_fit(profile, s.left, s.last, s.above, carried)
         }
-        2 => numbers_fit(profile, &numbers[..count]),
+        2 => numbers_fit(profile, come(state, count)),
         3 => can_stand(s.left),
-        4 => numbers_fit(profile, &numbers[..count]),
+        4 => numbers_fit(profile, come(state, count)),
         _ => false,
     }
 }
 
 // Whether the record is consistent.
-pub(crate) fn consistent(profile: u64, s: Stand) -> bool
-    ensures { λ r. ⌜ r ≡ ofProfile profile false (λ p. standFit p s) ⌝ }
+pub(crate) fn consistent(profile: u64, s: Marks, state: &[u64; WORDS]) -> bool
+    ensures { λ r. ⌜ r ≡ ofProfile profile false (λ p. standFit p (standIn s (now (state .entry)))) ⌝ }
 {
     match profile {
-        1 => stand_fit(Profile::One, s),
-        2 => stand_fit(Profile::Two, s),
+        1 => stand_fit(Profile::One, s, state),
+        2 => stand_fit(Profile::Two, s, state),
         _ => false,
     }
 }

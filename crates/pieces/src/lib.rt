@@ -77,27 +77,20 @@ pub struct Taken {
     pub header: Header,
 }
 
-// What the words say, by their names.
-struct Stand {
+// Where a report stands, by the names of the words. The header's numbers and the bytes that are carried stay in the words that were lent:
+// handed on, they would be copied.
+struct Marks {
     stage: u64,
     left: u64,
     last: u64,
     above: u64,
     count: usize,
     carried: usize,
-    numbers: [u64; MOST_NUMBERS],
-    held: [u8; CARRIED],
 }
 
 // Where some bytes of a part lead to, and how many they and the records they brought are.
-struct Moved {
-    now: Stand,
+struct Walked {
+    now: Marks,
     taken: usize,
     records: usize,
-}
-
-// The group of a good record and one past its object number.
-enum Key {
-    Good { group: u64, above: u64 },
-    Bad,
 }

@@ -3,46 +3,22 @@ ghost use mathlib.Core.Path.{_≡_};
 ghost use Prim.Native.Nat.{_-_, _*_, _≤_, _<_};
 ghost use lib.ListN.{length, drop};
 ghost use Rattle.entries.specs.Profiles.{recordSize};
-ghost use Rattle.pieces.specs.Reading.{keyOf, countedOn, completesOf, rowHere};
-ghost use Rattle.pieces.specs.Record.{stateIn};
+ghost use Rattle.pieces.specs.Reading.{countedAt, completesOf, rowHere};
+ghost use Rattle.pieces.specs.Record.{standIn, stateIn, movedIn};
 ghost use Rattle.pieces.specs.Serving.{Sits, Served, Past, Begun, Short};
 use crate::COUNTING;
-use crate::Key;
-use crate::Moved;
+use crate::Marks;
 use crate::RECORDS;
-use crate::Stand;
+use crate::WORDS;
+use crate::Walked;
 use crate::fields::as_it_was;
 use crate::fields::joined;
 use crate::fields::smaller_of;
-use entries::Entry;
+use crate::words::held_in;
 use entries::Profile;
-use entries::at_or_above;
-use entries::entry_of;
 use entries::good_run;
 use entries::record_size;
 use entries::records_in;
-
-// The key of a record, if it is good after the one before.
-fn key_of(profile: Profile, last: u64, above: u64, bytes: &[u8]) -> Key
-    ensures { λ r. ⌜ r ≡ keyOf profile last above (now (bytes .entry)) ⌝ }
-{
-    let Entry::Record {
-        group,
-        object,
-        status: _,
-        age: _,
-    } = entry_of(profile, bytes)
-    else {
-        return Key::Bad;
-    };
-    if !at_or_above(last, above, group, object) {
-        return Key::Bad;
-    }
-    Key::Good {
-        group,
-        above: object + 1,
-    }
-}
 
 // Copies from over the whole of to, which is as long.
 fn copy(to: &mut [u8], from: &[u8])
@@ -57,14 +33,14 @@ fn copy(to: &mut [u8], from: &[u8])
 }
 
 // A bad record came: the bytes of those still to come are counted on.
-fn after_bad(profile: Profile, from: Stand, left: u64, taken: usize, records: usize) -> Moved
+fn after_bad(profile: Profile, from: Marks, left: u64, taken: usize, records: usize) -> Walked
     requires { ⌜ left ≤ 200 ⌝ }
-    ensures { λ r. ⌜ r ≡ countedOn from (recordSize profile * left) taken records ⌝ }
+    ensures { λ r. ⌜ r ≡ countedAt from (recordSize profile * left) taken records ⌝ }
 {
     let mut now = from;
     now.stage = COUNTING;
     now.left = (record_size(profile) as u64) * left;
-    Moved {
+    Walked {
         now,
         taken,
         records,
@@ -89,9 +65,15 @@ fn completes(stage: u64, left: u64, carried: usize, size: usize, bytes: usize) -
 }
 
 // Makes the record that is carried whole, if the part has the bytes.
-pub(crate) fn complete(profile: Profile, from: Stand, part: &[u8], out: &mut [u8]) -> Moved
-    requires { ⌜ (Sits profile from) × ((Past (stateIn from) (now part)) × (recordSize profile ≤ length (now out))) ⌝ }
-    ensures { λ r. ⌜ (Served profile (stateIn from) (now (part .entry)) (now (out .entry)) r (now (out .exit))) × (Begun profile (stateIn (r .now)) (drop (r .taken) (now (part .entry)))) ⌝ }
+pub(crate) fn complete(
+    profile: Profile,
+    from: Marks,
+    state: &[u64; WORDS],
+    part: &[u8],
+    out: &mut [u8],
+) -> Walked
+    requires { ⌜ (Sits profile (standIn from (now state))) × ((Past (stateIn (standIn from (now state))) (now part)) × (recordSize profile ≤ length (now out))) ⌝ }
+    ensures { λ r. ⌜ (Served profile (stateIn (standIn from (now (state .entry)))) (now (part .entry)) (now (out .entry)) (movedIn r (now (state .entry))) (now (out .exit))) × (Begun profile (stateIn (standIn (r .now) (now (state .entry)))) (drop (r .taken) (now (part .entry)))) ⌝ }
 {
     let stage = from.stage;
     let left = from.left;
@@ -101,18 +83,19 @@ pub(crate) fn complete(profile: Profile, from: Stand, part: &[u8], out: &mut [u8
         return as_it_was(from);
     }
     let need = size - carried;
-    let held = from.held;
+    let held = held_in(state, carried);
     let record = joined(held, carried, &part[..need]);
-    let Key::Good { group, above } = key_of(profile, from.last, from.above, &record[..size]) else {
+    let run = good_run(profile, from.last, from.above, &record[..size]);
+    if run.good == 0 {
         return after_bad(profile, from, left - 1, need, 0);
-    };
+    }
     copy(&mut out[..size], &record[..size]);
     let mut now = from;
     now.left = left - 1;
-    now.last = group;
-    now.above = above;
+    now.last = run.last;
+    now.above = run.above;
     now.carried = 0;
-    Moved {
+    Walked {
         now,
         taken: need,
         records: 1,
@@ -130,9 +113,15 @@ fn row_here(stage: u64, carried: usize) -> bool
 }
 
 // Takes the records that lie whole in the part, as many as are to come and fit the buffer, up to the first bad one.
-pub(crate) fn in_place(profile: Profile, from: Stand, part: &[u8], out: &mut [u8]) -> Moved
-    requires { ⌜ (Sits profile from) × (Begun profile (stateIn from) (now part)) ⌝ }
-    ensures { λ r. ⌜ (Served profile (stateIn from) (now (part .entry)) (now (out .entry)) r (now (out .exit))) × (Short profile (length (now (out .entry)) - recordSize profile * r .records) (stateIn (r .now)) (drop (r .taken) (now (part .entry)))) ⌝ }
+pub(crate) fn in_place(
+    profile: Profile,
+    from: Marks,
+    state: &[u64; WORDS],
+    part: &[u8],
+    out: &mut [u8],
+) -> Walked
+    requires { ⌜ (Sits profile (standIn from (now state))) × (Begun profile (stateIn (standIn from (now state))) (now part)) ⌝ }
+    ensures { λ r. ⌜ (Served profile (stateIn (standIn from (now (state .entry)))) (now (part .entry)) (now (out .entry)) (movedIn r (now (state .entry))) (now (out .exit))) × (Short profile (length (now (out .entry)) - recordSize profile * r .records) (stateIn (standIn (r .now) (now (state .entry)))) (drop (r .taken) (now (part .entry)))) ⌝ }
 {
     let stage = from.stage;
     let carried = from.carried;
@@ -158,7 +147,7 @@ pub(crate) fn in_place(profile: Profile, from: Stand, part: &[u8], out: &mut [u8
     now.left = left - good as u64;
     now.last = run.last;
     now.above = run.above;
-    Moved {
+    Walked {
         now,
         taken: end,
         records: good,

@@ -5,24 +5,31 @@ ghost use Prim.Native.Nat.{ℕ, _≤_};
 ghost use lib.ListN.{length, drop};
 ghost use Rattle.entries.specs.Profiles.{recordSize};
 ghost use Rattle.uncut.specs.Cutting.{taking};
-ghost use Rattle.pieces.specs.Record.{stateIn};
+ghost use Rattle.pieces.specs.Record.{standIn, stateIn, movedIn};
 ghost use Rattle.pieces.specs.Serving.{Sits, Served, Past, Begun, Short};
-use crate::Moved;
+use crate::Marks;
 use crate::REFUSED;
-use crate::Stand;
+use crate::WORDS;
+use crate::Walked;
 use crate::fields::as_it_was;
-use crate::fields::joined;
 use crate::fields::smaller_of;
 use crate::fields::through_header;
 use crate::records::complete;
 use crate::records::in_place;
+use crate::words::keep;
 use entries::Profile;
 use entries::record_size;
 
 // Records are coming: a byte behind the last one is 13, and the start of the next one is carried where the buffer has room for it.
-fn begin_record(profile: Profile, from: Stand, part: &[u8], room: usize) -> Moved
-    requires { ⌜ (Sits profile from) × ((from .stage ≡ 1) × (Short profile room (stateIn from) (now part))) ⌝ }
-    ensures { λ r. ⌜ (((out : List ℕ) → length out ≡ room → Served profile (stateIn from) (now (part .entry)) out r out) × (taking profile room (stateIn (r .now)) (drop (r .taken) (now (part .entry))) ≡ 0)) × (r .records ≡ 0) ⌝ }
+fn begin_record(
+    profile: Profile,
+    from: Marks,
+    state: &mut [u64; WORDS],
+    part: &[u8],
+    room: usize,
+) -> Walked
+    requires { ⌜ (Sits profile (standIn from (now state))) × ((from .stage ≡ 1) × (Short profile room (stateIn (standIn from (now state))) (now part))) ⌝ }
+    ensures { λ r. ⌜ (((out : List ℕ) → length out ≡ room → Served profile (stateIn (standIn from (now (state .entry)))) (now (part .entry)) out (movedIn r (now (state .exit))) out) × (taking profile room (stateIn (standIn (r .now) (now (state .exit)))) (drop (r .taken) (now (part .entry))) ≡ 0)) × (r .records ≡ 0) ⌝ }
 {
     let left = from.left;
     let bytes = part.len();
@@ -33,7 +40,7 @@ fn begin_record(profile: Profile, from: Stand, part: &[u8], room: usize) -> Move
     if left == 0 {
         now.stage = REFUSED;
         now.left = 13;
-        return Moved {
+        return Walked {
             now,
             taken: 1,
             records: 0,
@@ -42,12 +49,10 @@ fn begin_record(profile: Profile, from: Stand, part: &[u8], room: usize) -> Move
     if room < record_size(profile) {
         return as_it_was(from);
     }
-    let held = from.held;
     let carried = from.carried;
-    let kept = joined(held, carried, part);
-    now.held = kept;
+    keep(state, carried, part);
     now.carried = carried + bytes;
-    Moved {
+    Walked {
         now,
         taken: bytes,
         records: 0,
@@ -55,15 +60,15 @@ fn begin_record(profile: Profile, from: Stand, part: &[u8], room: usize) -> Move
 }
 
 // A bad record came: its report's entry bytes are counted on.
-fn count_on(profile: Profile, from: Stand, part: &[u8]) -> Moved
-    requires { ⌜ (Sits profile from) × (from .stage ≡ 2) ⌝ }
-    ensures { λ r. ⌜ (((out : List ℕ) → Served profile (stateIn from) (now (part .entry)) out r out) × ((room : ℕ) → taking profile room (stateIn (r .now)) (drop (r .taken) (now (part .entry))) ≡ 0)) × (r .records ≡ 0) ⌝ }
+fn count_on(profile: Profile, from: Marks, state: &[u64; WORDS], part: &[u8]) -> Walked
+    requires { ⌜ (Sits profile (standIn from (now state))) × (from .stage ≡ 2) ⌝ }
+    ensures { λ r. ⌜ (((out : List ℕ) → Served profile (stateIn (standIn from (now (state .entry)))) (now (part .entry)) out (movedIn r (now (state .entry))) out) × ((room : ℕ) → taking profile room (stateIn (standIn (r .now) (now (state .entry)))) (drop (r .taken) (now (part .entry))) ≡ 0)) × (r .records ≡ 0) ⌝ }
 {
     let left = from.left;
     let bytes = smaller_of(left as usize, part.len());
     let mut now = from;
     now.left = left - bytes as u64;
-    Moved {
+    Walked {
         now,
         taken: bytes,
         records: 0,
@@ -71,31 +76,43 @@ fn count_on(profile: Profile, from: Stand, part: &[u8]) -> Moved
 }
 
 // The last bytes that a call takes.
-fn finish(profile: Profile, from: Stand, part: &[u8], room: usize) -> Moved
-    requires { ⌜ (Sits profile from) × (Short profile room (stateIn from) (now part)) ⌝ }
-    ensures { λ r. ⌜ (((out : List ℕ) → length out ≡ room → Served profile (stateIn from) (now (part .entry)) out r out) × (taking profile room (stateIn (r .now)) (drop (r .taken) (now (part .entry))) ≡ 0)) × (r .records ≡ 0) ⌝ }
+fn finish(
+    profile: Profile,
+    from: Marks,
+    state: &mut [u64; WORDS],
+    part: &[u8],
+    room: usize,
+) -> Walked
+    requires { ⌜ (Sits profile (standIn from (now state))) × (Short profile room (stateIn (standIn from (now state))) (now part)) ⌝ }
+    ensures { λ r. ⌜ (((out : List ℕ) → length out ≡ room → Served profile (stateIn (standIn from (now (state .entry)))) (now (part .entry)) out (movedIn r (now (state .exit))) out) × (taking profile room (stateIn (standIn (r .now) (now (state .exit)))) (drop (r .taken) (now (part .entry))) ≡ 0)) × (r .records ≡ 0) ⌝ }
 {
     let stage = from.stage;
     match stage {
-        1 => begin_record(profile, from, part, room),
-        2 => count_on(profile, from, part),
+        1 => begin_record(profile, from, state, part, room),
+        2 => count_on(profile, from, state, part),
         _ => as_it_was(from),
     }
 }
 
 // The records that lie whole in the part, then the last bytes.
-fn finish_rows(profile: Profile, from: Stand, part: &[u8], out: &mut [u8]) -> Moved
-    requires { ⌜ (Sits profile from) × (Begun profile (stateIn from) (now part)) ⌝ }
-    ensures { λ r. ⌜ (Served profile (stateIn from) (now (part .entry)) (now (out .entry)) r (now (out .exit))) × (r .taken ≡ taking profile (length (now (out .entry))) (stateIn from) (now (part .entry))) ⌝ }
+fn finish_rows(
+    profile: Profile,
+    from: Marks,
+    state: &mut [u64; WORDS],
+    part: &[u8],
+    out: &mut [u8],
+) -> Walked
+    requires { ⌜ (Sits profile (standIn from (now state))) × (Begun profile (stateIn (standIn from (now state))) (now part)) ⌝ }
+    ensures { λ r. ⌜ (Served profile (stateIn (standIn from (now (state .entry)))) (now (part .entry)) (now (out .entry)) (movedIn r (now (state .exit))) (now (out .exit))) × (r .taken ≡ taking profile (length (now (out .entry))) (stateIn (standIn from (now (state .entry)))) (now (part .entry))) ⌝ }
 {
-    let rows = in_place(profile, from, part, out);
+    let rows = in_place(profile, from, state, part, out);
     let at = rows.taken;
     let records = rows.records;
     let short = rows.now;
     let room = out.len() - record_size(profile) * records;
-    let last = finish(profile, short, &part[at..], room);
+    let last = finish(profile, short, state, &part[at..], room);
     let now = last.now;
-    Moved {
+    Walked {
         now,
         taken: at + last.taken,
         records,
@@ -103,18 +120,24 @@ fn finish_rows(profile: Profile, from: Stand, part: &[u8], out: &mut [u8]) -> Mo
 }
 
 // The record that is carried, then those behind it.
-fn through_rows(profile: Profile, from: Stand, part: &[u8], out: &mut [u8]) -> Moved
-    requires { ⌜ (Sits profile from) × ((Past (stateIn from) (now part)) × (recordSize profile ≤ length (now out))) ⌝ }
-    ensures { λ r. ⌜ (Served profile (stateIn from) (now (part .entry)) (now (out .entry)) r (now (out .exit))) × (r .taken ≡ taking profile (length (now (out .entry))) (stateIn from) (now (part .entry))) ⌝ }
+fn through_rows(
+    profile: Profile,
+    from: Marks,
+    state: &mut [u64; WORDS],
+    part: &[u8],
+    out: &mut [u8],
+) -> Walked
+    requires { ⌜ (Sits profile (standIn from (now state))) × ((Past (stateIn (standIn from (now state))) (now part)) × (recordSize profile ≤ length (now out))) ⌝ }
+    ensures { λ r. ⌜ (Served profile (stateIn (standIn from (now (state .entry)))) (now (part .entry)) (now (out .entry)) (movedIn r (now (state .exit))) (now (out .exit))) × (r .taken ≡ taking profile (length (now (out .entry))) (stateIn (standIn from (now (state .entry)))) (now (part .entry))) ⌝ }
 {
-    let first = complete(profile, from, part, out);
+    let first = complete(profile, from, state, part, out);
     let at = first.taken;
     let records = first.records;
     let begun = first.now;
     let filled = record_size(profile) * records;
-    let rest = finish_rows(profile, begun, &part[at..], &mut out[filled..]);
+    let rest = finish_rows(profile, begun, state, &part[at..], &mut out[filled..]);
     let now = rest.now;
-    Moved {
+    Walked {
         now,
         taken: at + rest.taken,
         records: records + rest.records,
@@ -122,17 +145,23 @@ fn through_rows(profile: Profile, from: Stand, part: &[u8], out: &mut [u8]) -> M
 }
 
 // A whole part, as far as the buffer has room for its records: the header's numbers, then the records.
-pub(crate) fn taken_in(profile: Profile, from: Stand, part: &[u8], out: &mut [u8]) -> Moved
-    requires { ⌜ (Sits profile from) × (recordSize profile ≤ length (now out)) ⌝ }
-    ensures { λ r. ⌜ (Served profile (stateIn from) (now (part .entry)) (now (out .entry)) r (now (out .exit))) × (r .taken ≡ taking profile (length (now (out .entry))) (stateIn from) (now (part .entry))) ⌝ }
+pub(crate) fn taken_in(
+    profile: Profile,
+    from: Marks,
+    state: &mut [u64; WORDS],
+    part: &[u8],
+    out: &mut [u8],
+) -> Walked
+    requires { ⌜ (Sits profile (standIn from (now state))) × (recordSize profile ≤ length (now out)) ⌝ }
+    ensures { λ r. ⌜ (Served profile (stateIn (standIn from (now (state .entry)))) (now (part .entry)) (now (out .entry)) (movedIn r (now (state .exit))) (now (out .exit))) × (r .taken ≡ taking profile (length (now (out .entry))) (stateIn (standIn from (now (state .entry)))) (now (part .entry))) ⌝ }
 {
-    let head = through_header(profile, from, part);
+    let head = through_header(profile, from, state, part);
     let at = head.taken;
     let past = head.now;
-    let rest = through_rows(profile, past, &part[at..], out);
+    let rest = through_rows(profile, past, state, &part[at..], out);
     let now = rest.now;
     let records = rest.records;
-    Moved {
+    Walked {
         now,
         taken: at + rest.taken,
         records,

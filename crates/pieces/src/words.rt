@@ -1,10 +1,10 @@
-// The words of the record, read and written.
+// The words of the record, read and written where they stand.
 ghost use mathlib.Core.Path.{_≡_};
-ghost use Prim.Native.Nat.{_≤_};
-ghost use lib.ListN.{length};
-ghost use Rattle.wire.specs.Bytes.{splice};
+ghost use mathlib.Core.List.{List, _++_};
+ghost use Prim.Native.Nat.{ℕ, _+_, _%_, _≤_};
+ghost use lib.ListN.{length, getD, take};
 ghost use Rattle.entries.specs.Profiles.{numberOf};
-ghost use Rattle.pieces.specs.Record.{numbersIn, heldIn, standAt, stateIn, bodyIn, bodyOf, wordsOf};
+ghost use Rattle.pieces.specs.Record.{numbersIn, heldIn, marksAt, standIn, stateIn, bodyIn, bodyOf, wordsOf, Laid};
 use crate::ACCEPTED;
 use crate::AT_ABOVE;
 use crate::AT_CARRIED;
@@ -16,52 +16,53 @@ use crate::AT_NUMBERS;
 use crate::AT_PROFILE;
 use crate::AT_STAGE;
 use crate::CARRIED;
-use crate::Stand;
+use crate::Marks;
 use crate::WORDS;
 use entries::Profile;
-use report::MOST_NUMBERS;
 
-// The places of the header's numbers.
-fn numbers_in(state: &[u64; WORDS]) -> [u64; MOST_NUMBERS]
-    ensures { λ r. ⌜ r ≡ numbersIn (now (state .entry)) ⌝ }
+// How many words there are. A caller's proof learns from it that there are so many.
+pub(crate) fn all_of(state: &[u64; WORDS]) -> usize
+    ensures { λ r. ⌜ (r ≡ 56) × (length (now (state .entry)) ≡ 56) ⌝ }
 {
-    let mut numbers = [0u64; MOST_NUMBERS];
-    let mut i: usize = 0;
-    while i < MOST_NUMBERS {
-        numbers[i] = state[AT_NUMBERS + i];
-        i += 1;
-    }
-    numbers
+    let words = &state[..];
+    words.len()
 }
 
-// The places of the bytes that are carried.
-fn held_in(state: &[u64; WORDS]) -> [u8; CARRIED]
-    ensures { λ r. ⌜ r ≡ heldIn (now (state .entry)) ⌝ }
+// The header's numbers that have come.
+pub(crate) fn come(state: &[u64; WORDS], count: usize) -> &[u64]
+    requires { ⌜ count ≤ 25 ⌝ }
+    ensures { λ r. ⌜ (now r ≡ take count (numbersIn (now (state .entry)))) × (length (now (state .entry)) ≡ 56) ⌝ }
+{
+    let words = &state[..];
+    let end = AT_NUMBERS + count;
+    &words[AT_NUMBERS..end]
+}
+
+// The bytes that are carried, at the start of an array; no others are looked at.
+pub(crate) fn held_in(state: &[u64; WORDS], carried: usize) -> [u8; CARRIED]
+    requires { ⌜ carried ≤ 24 ⌝ }
+    ensures { λ r. ⌜ (length r ≡ 24) × (take carried r ≡ take carried (heldIn (now (state .entry)))) ⌝ }
 {
     let mut held = [0u8; CARRIED];
     let mut i: usize = 0;
-    while i < CARRIED {
+    while i < carried {
         held[i] = (state[AT_HELD + i] % 256) as u8;
         i += 1;
     }
     held
 }
 
-// What the words say.
-pub(crate) fn loaded(state: &[u64; WORDS]) -> Stand
-    ensures { λ r. ⌜ r ≡ standAt (now (state .entry)) ⌝ }
+// Where the words say that the report stands.
+pub(crate) fn loaded(state: &[u64; WORDS]) -> Marks
+    ensures { λ r. ⌜ r ≡ marksAt (now (state .entry)) ⌝ }
 {
-    let numbers = numbers_in(state);
-    let held = held_in(state);
-    Stand {
+    Marks {
         stage: state[AT_STAGE],
         left: state[AT_LEFT],
         last: state[AT_LAST],
         above: state[AT_ABOVE],
         count: state[AT_COUNT] as usize,
         carried: state[AT_CARRIED] as usize,
-        numbers,
-        held,
     }
 }
 
@@ -75,33 +76,22 @@ fn number_of(profile: Profile) -> u64
     }
 }
 
-// Puts numbers in their places. The words are written where they stand, since an array that is handed on is copied.
-fn put_numbers(state: &mut [u64; WORDS], numbers: &[u64])
-    requires { ⌜ (length (now state) ≡ 56) × (length (now numbers) ≤ 25) ⌝ }
-    ensures { λ r. ⌜ (length (now (state .exit)) ≡ 56) × (now (state .exit) ≡ splice (now (state .entry)) 7 (now (numbers .entry))) ⌝ }
+// More bytes are carried, behind those that are.
+pub(crate) fn keep(state: &mut [u64; WORDS], carried: usize, more: &[u8])
+    requires { ⌜ carried + length (now more) ≤ 24 ⌝ }
+    ensures { λ r. ⌜ (numbersIn (now (state .exit)) ≡ numbersIn (now (state .entry))) × (take (carried + length (now (more .entry))) (heldIn (now (state .exit))) ≡ take carried (heldIn (now (state .entry))) ++ now (more .entry)) ⌝ }
 {
+    all_of(state);
     let mut i: usize = 0;
-    while i < numbers.len() {
-        state[AT_NUMBERS + i] = numbers[i];
-        i += 1;
-    }
-}
-
-// Puts the bytes that are carried in their places.
-fn put_held(state: &mut [u64; WORDS], held: &[u8])
-    requires { ⌜ (length (now state) ≡ 56) × (length (now held) ≤ 24) ⌝ }
-    ensures { λ r. ⌜ (length (now (state .exit)) ≡ 56) × (now (state .exit) ≡ splice (now (state .entry)) 32 (now (held .entry))) ⌝ }
-{
-    let mut i: usize = 0;
-    while i < held.len() {
-        state[AT_HELD + i] = held[i] as u64;
+    while i < more.len() {
+        state[AT_HELD + carried + i] = more[i] as u64;
         i += 1;
     }
 }
 
 // Where nothing is said by a field it becomes 0.
-fn tidied(from: Stand) -> Stand
-    ensures { λ r. ⌜ (bodyIn r ≡ bodyOf (stateIn from)) × ((r .count ≤ from .count) × (r .carried ≤ from .carried)) ⌝ }
+fn tidied(from: Marks) -> Marks
+    ensures { λ r. ⌜ ((w : List ℕ) → bodyIn (standIn r w) ≡ bodyOf (stateIn (standIn from w))) × ((r .count ≤ from .count) × (r .carried ≤ from .carried)) ⌝ }
 {
     let mut next = from;
     let stage = from.stage;
@@ -134,25 +124,47 @@ fn tidied(from: Stand) -> Stand
     next
 }
 
-// The words that say so.
-pub(crate) fn store(state: &mut [u64; WORDS], profile: Profile, from: Stand)
+// So many words of those that hold a byte each hold no more than that.
+fn cut(state: &mut [u64; WORDS], carried: usize)
+    requires { ⌜ (length (now state) ≡ 56) × (carried ≤ 24) ⌝ }
+    ensures { λ r. ⌜ Laid (λ j. getD (now (state .entry)) j 0 % 256) (now (state .entry)) 32 (32 + carried) (now (state .exit)) ⌝ }
+{
+    let mut i: usize = 0;
+    while i < carried {
+        state[AT_HELD + i] = state[AT_HELD + i] % 256;
+        i += 1;
+    }
+}
+
+// Words that say nothing are 0.
+fn clear(state: &mut [u64; WORDS], from: usize, to: usize)
+    requires { ⌜ (length (now state) ≡ 56) × ((from ≤ to) × (to ≤ 56)) ⌝ }
+    ensures { λ r. ⌜ Laid (λ j. 0) (now (state .entry)) from to (now (state .exit)) ⌝ }
+{
+    let mut i: usize = from;
+    while i < to {
+        state[i] = 0;
+        i += 1;
+    }
+}
+
+// The words say so; the numbers and the bytes that are carried are there already.
+pub(crate) fn store(state: &mut [u64; WORDS], profile: Profile, from: Marks)
     requires { ⌜ (from .count ≤ 25) × (from .carried ≤ 24) ⌝ }
-    ensures { λ r. ⌜ now (state .exit) ≡ wordsOf profile (stateIn from) ⌝ }
+    ensures { λ r. ⌜ now (state .exit) ≡ wordsOf profile (stateIn (standIn from (now (state .entry)))) ⌝ }
 {
     let next = tidied(from);
     let count = next.count;
     let carried = next.carried;
-    let numbers = next.numbers;
-    let held = next.held;
-    let mut words = [0u64; WORDS];
-    words[AT_PROFILE] = number_of(profile);
-    words[AT_STAGE] = next.stage;
-    words[AT_LEFT] = next.left;
-    words[AT_LAST] = next.last;
-    words[AT_ABOVE] = next.above;
-    words[AT_COUNT] = count as u64;
-    words[AT_CARRIED] = carried as u64;
-    *state = words;
-    put_numbers(state, &numbers[..count]);
-    put_held(state, &held[..carried]);
+    let end = all_of(state);
+    cut(state, carried);
+    clear(state, AT_NUMBERS + count, AT_HELD);
+    clear(state, AT_HELD + carried, end);
+    state[AT_PROFILE] = number_of(profile);
+    state[AT_STAGE] = next.stage;
+    state[AT_LEFT] = next.left;
+    state[AT_LAST] = next.last;
+    state[AT_ABOVE] = next.above;
+    state[AT_COUNT] = count as u64;
+    state[AT_CARRIED] = carried as u64;
 }

@@ -8,15 +8,15 @@ use borrow.Author.Tests.{not-true, not-false}
 use mathlib.Core.Bool.{true}
 use Rattle.entries.specs.declared.Profile.{Profile}
 use Rattle.uncut.specs.State.{atEnd}
-use Rattle.pieces.specs.Record.{stateIn, wordsOf}
+use Rattle.pieces.specs.Record.{standIn, stateIn, wordsOf}
 use Rattle.pieces.specs.Fitness.{consistent}
-use Rattle.pieces.specs.declared.Stand.{Stand}
+use Rattle.pieces.specs.declared.Marks.{Marks}
 use Rattle.pieces.proofs.Calling.{end-one, end-said, tested, sits-loaded}
 use Rattle.pieces.proofs.calls.end.Statement.{statement}
 use Rattle.pieces.proofs.calls.end.Tie as tie
 
-ok : (c : tie.Else1) → consistent (now (c .before .before .before .before .before .args .state)) ≡ true
-ok c = sym (tested (now (c .before .before .before .before .before .args .state)) (c .before .before .before .loaded .result) (c .before .consistent .result) (c .before .before .before .loaded .ensures) (c .before .consistent .ensures)) ∙ not-false _ (c .if1 .left)
+ok : (c : tie.Else1) → consistent (now (c .before .before .before .before .before .before .args .state)) ≡ true
+ok c = sym (tested (now (c .before .before .before .before .before .before .args .state)) (c .before .before .before .before .loaded .result) (c .before .consistent .result) (c .before .before .before .before .loaded .ensures) (c .before .consistent .ensures)) ∙ not-false _ (c .if1 .left)
 
 loaded-requires : tie.Need-loaded-requires
 loaded-requires c κs = search needs
@@ -32,8 +32,8 @@ refused-requires c κs = search needs
 
 returns : tie.Need-returns
 returns c =
-    let w = now (c .before .before .before .before .before .before .args .state) in
-    end-one w (sym (tested w (c .before .before .before .before .loaded .result) (c .before .before .consistent .result) (c .before .before .before .before .loaded .ensures) (c .before .before .consistent .ensures)) ∙ not-true _ (c .before .if1 .taken)) _ (c .refused .ensures)
+    let w = now (c .before .before .before .before .before .before .before .args .state) in
+    end-one w (sym (tested w (c .before .before .before .before .before .loaded .result) (c .before .before .consistent .result) (c .before .before .before .before .before .loaded .ensures) (c .before .before .consistent .ensures)) ∙ not-true _ (c .before .if1 .taken)) _ (c .refused .ensures)
 
 element-copy-out-profile-of : tie.Need-element-copy-out-profile-of
 element-copy-out-profile-of c = search needs
@@ -46,19 +46,19 @@ ended-requires c κs = search needs
 
 store-requires : tie.Need-store-requires
 store-requires c κs =
-    let z = sits-loaded (now (c .before .before .before .before .before .before .before .before .before .args .state)) (c .before .before .before .before .before .before .before .loaded .result) (c .before .before .profile-of .result) (c .before .before .before .before .before .before .before .loaded .ensures) (c .before .before .profile-of .ensures) (ok (c .before .before .before .before)) in
-    (omega (arith, c .before .ended .ensures .1 .0, z .count), omega (arith, c .before .ended .ensures .1 .1, z .carried))
+    let z = sits-loaded (now (c .before .before .before .before .before .before .before .before .before .before .before .before .args .state)) (c .before .before .before .before .before .before .before .before .before .before .loaded .result) (c .before .before .before .before .profile-of .result) (c .before .before .before .before .before .before .before .before .before .before .loaded .ensures) (c .before .before .before .before .profile-of .ensures) (ok (c .before .before .before .before .before .before)) in
+    (omega (arith, c .before .before .before .ended .ensures .1 .0, z .count), omega (arith, c .before .before .before .ended .ensures .1 .1, z .carried))
 
 report-at-requires : tie.Need-report-at-requires
 report-at-requires c κs =
-    let z = sits-loaded (now (c .before .before .before .before .before .before .before .before .before .before .args .state)) (c .before .before .before .before .before .before .before .before .loaded .result) (c .before .before .before .profile-of .result) (c .before .before .before .before .before .before .before .before .loaded .ensures) (c .before .before .before .profile-of .ensures) (ok (c .before .before .before .before .before)) in
-    omega (arith, c .before .before .ended .ensures .1 .0, z .count)
+    let z = sits-loaded (now (c .before .before .before .before .before .before .before .before .before .before .args .state)) (c .before .before .before .before .before .before .before .before .loaded .result) (c .before .before .profile-of .result) (c .before .before .before .before .before .before .before .before .loaded .ensures) (c .before .before .profile-of .ensures) (ok (c .before .before .before .before)) in
+    omega (arith, c .before .ended .ensures .1 .0, z .count)
 
 returns-2 : tie.Need-returns-2
 returns-2 c =
-    let w = now (c .before .before .before .before .before .before .before .before .before .before .before .args .state) in
-    let e = c .before .before .before .ended in
-    end-said w (ok (c .before .before .before .before .before .before)) (stateIn (e .result)) _ _ (e .ensures .0 ∙ ap (λ (s : Stand). atEnd (stateIn s)) (c .before .before .before .before .before .before .before .before .before .loaded .ensures)) (c .report-at .ensures) (c .before .store .ensures ∙ ap (λ (p : Profile). wordsOf p (stateIn (e .result))) (c .before .before .before .before .profile-of .ensures))
+    let w = now (c .before .before .before .before .before .before .before .before .before .before .before .before .before .args .state) in
+    let e = c .before .before .before .before .ended in
+    end-said w (ok (c .before .before .before .before .before .before .before)) (stateIn (standIn (e .result) w)) _ _ (e .ensures .0 w ∙ ap (λ (m : Marks). atEnd (stateIn (standIn m w))) (c .before .before .before .before .before .before .before .before .before .before .before .loaded .ensures)) (c .before .before .report-at .ensures) (c .store .ensures ∙ ap (λ (p : Profile). wordsOf p (stateIn (standIn (e .result) w))) (c .before .before .before .before .before .profile-of .ensures))
 
 pub end-spec : {M : Type 1} → statement M
 end-spec =
@@ -72,6 +72,6 @@ end-spec =
     element-copy-out-profile-of
     profile-of-requires
     ended-requires
-    store-requires
     report-at-requires
+    store-requires
     returns-2)

@@ -9,15 +9,15 @@ use mathlib.Core.Bool.{true}
 use lib.ListN.{length}
 use Rattle.entries.specs.Profiles.{recordSize}
 use Rattle.entries.specs.declared.Profile.{Profile}
-use Rattle.pieces.specs.Record.{stateIn, wordsOf}
+use Rattle.pieces.specs.Record.{standIn, stateIn, movedIn, wordsOf}
 use Rattle.pieces.specs.Fitness.{consistent}
-use Rattle.pieces.specs.declared.Stand.{Stand}
+use Rattle.pieces.specs.declared.Marks.{Marks}
 use Rattle.pieces.proofs.Calling.{take-one, take-nine, take-served, tested, sits-loaded}
 use Rattle.pieces.proofs.calls.take.Statement.{statement}
 use Rattle.pieces.proofs.calls.take.Tie as tie
 
-ok : (c : tie.Else1) → consistent (now (c .before .before .before .before .before .before .before .args .state)) ≡ true
-ok c = sym (tested (now (c .before .before .before .before .before .before .before .args .state)) (c .before .before .before .loaded .result) (c .before .consistent .result) (c .before .before .before .loaded .ensures) (c .before .consistent .ensures)) ∙ not-false _ (c .if1 .left)
+ok : (c : tie.Else1) → consistent (now (c .before .before .before .before .before .before .before .before .args .state)) ≡ true
+ok c = sym (tested (now (c .before .before .before .before .before .before .before .before .args .state)) (c .before .before .before .before .loaded .result) (c .before .consistent .result) (c .before .before .before .before .loaded .ensures) (c .before .consistent .ensures)) ∙ not-false _ (c .if1 .left)
 
 loaded-requires : tie.Need-loaded-requires
 loaded-requires c κs = search needs
@@ -33,9 +33,9 @@ nothing-requires c κs = search needs
 
 returns : tie.Need-returns
 returns c =
-    let a = c .before .before .before .before .before .before .before .before .args in
+    let a = c .before .before .before .before .before .before .before .before .before .args in
     let w = now (a .state) in
-    take-one w (sym (tested w (c .before .before .before .before .loaded .result) (c .before .before .consistent .result) (c .before .before .before .before .loaded .ensures) (c .before .before .consistent .ensures)) ∙ not-true _ (c .before .if1 .taken)) (now (a .part)) (now (a .out)) _ (c .nothing .ensures)
+    take-one w (sym (tested w (c .before .before .before .before .before .loaded .result) (c .before .before .consistent .result) (c .before .before .before .before .before .loaded .ensures) (c .before .before .consistent .ensures)) ∙ not-true _ (c .before .if1 .taken)) (now (a .part)) (now (a .out)) _ (c .nothing .ensures)
 
 element-copy-out-profile-of : tie.Need-element-copy-out-profile-of
 element-copy-out-profile-of c = search needs
@@ -51,31 +51,31 @@ nothing-requires-2 c κs = search needs
 
 returns-2 : tie.Need-returns-2
 returns-2 c =
-    let a = c .before .before .before .before .before .before .before .before .before .before .before .before .args in
+    let a = c .before .before .before .before .before .before .before .before .before .before .before .before .before .args in
     let r = c .before .before .record-size .ensures ∙ ap recordSize (c .before .before .before .profile-of .ensures) in
     take-nine (now (a .state)) (ok (c .before .before .before .before .before)) (now (a .part)) (now (a .out)) (rw r at (c .before .if2 .taken)) _ (c .nothing2 .ensures)
 
 taken-in-requires : tie.Need-taken-in-requires
 taken-in-requires c κs =
-    (sits-loaded (now (c .before .before .before .before .before .before .before .before .before .before .before .before .args .state)) (c .before .before .before .before .before .before .before .before .loaded .result) (c .before .before .before .profile-of .result) (c .before .before .before .before .before .before .before .before .loaded .ensures) (c .before .before .before .profile-of .ensures) (ok (c .before .before .before .before .before)), rw (c .before .before .record-size .ensures) at (c .before .if2 .left))
+    (sits-loaded (now (c .before .before .before .before .before .before .before .before .before .before .before .before .before .before .args .state)) (c .before .before .before .before .before .before .before .before .before .before .loaded .result) (c .before .before .before .before .profile-of .result) (c .before .before .before .before .before .before .before .before .before .before .loaded .ensures) (c .before .before .before .before .profile-of .ensures) (ok (c .before .before .before .before .before .before)), rw (c .before .before .before .record-size .ensures) at (c .before .before .if2 .left))
 
 store-requires : tie.Need-store-requires
-store-requires c κs = search needs
+store-requires c κs = (c .before .before .before .before .before .before .taken-in .ensures .0 .sits .count, c .before .before .before .before .before .before .taken-in .ensures .0 .sits .carried)
 
 answer-requires : tie.Need-answer-requires
-answer-requires c κs = search needs
+answer-requires c κs = c .before .before .before .before .taken-in .ensures .0 .sits .count
 
 same-length : tie.Need-same-length
 same-length c = search needs
 
 returns-3 : tie.Need-returns-3
 returns-3 c =
-    let a = c .before .before .before .before .before .before .before .before .before .before .before .before .before .before .before .before .before .before .before .args in
-    let p = c .before .before .before .before .before .before .before .before .before .before .profile-of .ensures in
-    let l = c .before .before .before .before .before .before .before .before .before .before .before .before .before .before .before .loaded .ensures in
-    let t = c .before .before .before .before .before .before .taken-in in
-    let r = c .before .before .before .before .before .before .before .before .before .record-size .ensures ∙ ap recordSize (c .before .before .before .before .before .before .before .before .before .before .profile-of .ensures) in
-    take-served (now (a .state)) (ok (c .before .before .before .before .before .before .before .before .before .before .before .before)) (now (a .part)) (now (a .out)) (rw r at (c .before .before .before .before .before .before .before .before .if2 .left)) (t .result) (t .last .1 .1 .1 .0) _ _ (rw (p, l) at (t .ensures .0)) (rw (p, l) at (t .ensures .1)) (c .before .store .ensures ∙ ap (λ (x : Profile). wordsOf x (stateIn (t .result .now))) p) (c .answer .ensures)
+    let a = c .before .before .before .before .before .before .before .before .before .before .before .before .before .before .before .before .before .before .before .before .before .before .args in
+    let p = c .before .before .before .before .before .before .before .before .before .before .before .before .profile-of .ensures in
+    let l = c .before .before .before .before .before .before .before .before .before .before .before .before .before .before .before .before .before .before .loaded .ensures in
+    let t = c .before .before .before .before .before .before .before .taken-in in
+    let r = c .before .before .before .before .before .before .before .before .before .before .before .record-size .ensures ∙ ap recordSize (c .before .before .before .before .before .before .before .before .before .before .before .before .profile-of .ensures) in
+    take-served (now (a .state)) (ok (c .before .before .before .before .before .before .before .before .before .before .before .before .before .before)) (now (a .part)) (now (a .out)) (rw r at (c .before .before .before .before .before .before .before .before .before .before .if2 .left)) (movedIn (t .result) (t .last .1 .1 .0)) (t .last .1 .1 .1 .1 .0) _ _ (rw (p, l) at (t .ensures .0)) (rw (p, l) at (t .ensures .1)) (c .store .ensures ∙ ap (λ (x : Profile). wordsOf x (stateIn (standIn (t .result .now) (t .last .1 .1 .0)))) p) (c .before .before .answer .ensures)
 
 pub take-spec : {M : Type 1} → statement M
 take-spec =
@@ -92,7 +92,7 @@ take-spec =
     nothing-requires-2
     returns-2
     taken-in-requires
-    store-requires
     answer-requires
+    store-requires
     same-length
     returns-3)

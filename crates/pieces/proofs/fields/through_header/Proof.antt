@@ -4,6 +4,8 @@ use borrow.Author.Needs.{needs}
 use mathlib.Core.Path.{_≡_, refl, sym, ap, _∙_}
 use denote.Ref.{now}
 use Rattle.pieces.specs.Serving.{Past}
+use Rattle.pieces.specs.Record.{standIn, movedIn}
+use Rattle.pieces.specs.declared.Walked.{Walked}
 use Rattle.pieces.proofs.Going.{served-still}
 use Rattle.pieces.proofs.Numbering.{past-still}
 use Rattle.pieces.proofs.fields.through_header.Statement.{statement}
@@ -22,7 +24,7 @@ returns-2 : tie.Need-returns-2
 returns-2 c =
     let a = c .before .before .before .args in
     let h = c .before .before .before .pre in
-    rw (c .as-it-was .ensures) (λ out. served-still (a .profile) (a .from) (now (a .part)) out h, past-still (a .from) (now (a .part)) (c .before .if1 .left))
+    rw (c .as-it-was .ensures) (λ out. served-still (a .profile) (standIn (a .from) (now (a .state))) (now (a .part)) out h, past-still (standIn (a .from) (now (a .state))) (now (a .part)) (c .before .if1 .left))
 
 pub through-header-spec : {M : Type 1} → statement M
 through-header-spec =

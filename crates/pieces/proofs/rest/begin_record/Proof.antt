@@ -4,9 +4,13 @@ use borrow.Author.Needs.{needs}
 use mathlib.Core.Path.{_≡_, refl, sym, ap, _∙_}
 use native.Mathlib.Omega.{arith}
 use denote.Ref.{now}
-use Prim.Native.Nat.{_+_, _≤_}
+use Prim.Native.Nat.{ℕ, _+_, _≤_}
+use mathlib.Core.List.{List}
 use lib.ListN.{length}
 use Rattle.entries.specs.Profiles.{recordSize}
+use Rattle.pieces.specs.Record.{standIn, heldIn, Stand, Moved, movedIn}
+use Rattle.pieces.specs.declared.Walked.{Walked}
+use Rattle.pieces.proofs.Loading.{held-long}
 use Rattle.pieces.proofs.Endings.{ended-over, ended-behind, ended-full, ended-begun, begin-short}
 use Rattle.pieces.proofs.rest.begin_record.Statement.{statement}
 use Rattle.pieces.proofs.rest.begin_record.Tie as tie
@@ -17,12 +21,12 @@ as-it-was-requires c κs = search needs
 returns : tie.Need-returns
 returns c =
     let a = c .before .before .before .args in
-    ended-over (a .profile) (a .from) (now (a .part)) (a .room) _ (c .before .before .before .pre .0) (c .before .if1 .taken) (c .as-it-was .ensures)
+    ended-over (a .profile) (standIn (a .from) (now (a .state))) (now (a .part)) (a .room) _ (c .before .before .before .pre .0) (c .before .if1 .taken) (ap (λ (x : Walked). movedIn x (now (a .state))) (c .as-it-was .ensures))
 
 returns-2 : tie.Need-returns-2
 returns-2 c =
     let a = c .before .before .before .args in
-    ended-behind (a .profile) (a .from) (now (a .part)) (a .room) _ (c .before .before .before .pre .0) (c .before .before .before .pre .1 .0) (c .if2 .taken) (c .before .if1 .left) refl
+    ended-behind (a .profile) (standIn (a .from) (now (a .state))) (now (a .part)) (a .room) _ (c .before .before .before .pre .0) (c .before .before .before .pre .1 .0) (c .if2 .taken) (c .before .if1 .left) refl
 
 record-size-requires : tie.Need-record-size-requires
 record-size-requires c κs = search needs
@@ -34,14 +38,14 @@ returns-3 : tie.Need-returns-3
 returns-3 c =
     let a = c .before .before .before .before .before .before .args in
     let f = rw (c .before .before .record-size .ensures) at (c .before .if3 .taken) in
-    ended-full (a .profile) (a .from) (now (a .part)) (a .room) _ (c .before .before .before .before .before .before .pre .0) (c .before .before .before .before .before .before .pre .1 .0) (c .before .before .before .if2 .left) f (c .as-it-was2 .ensures)
+    ended-full (a .profile) (standIn (a .from) (now (a .state))) (now (a .part)) (a .room) _ (c .before .before .before .before .before .before .pre .0) (c .before .before .before .before .before .before .pre .1 .0) (c .before .before .before .if2 .left) f (ap (λ (x : Walked). movedIn x (now (a .state))) (c .as-it-was2 .ensures))
 
-joined-requires : tie.Need-joined-requires
-joined-requires c κs =
+keep-requires : tie.Need-keep-requires
+keep-requires c κs =
     let a = c .before .before .before .before .before .before .args in
     let h = c .before .before .before .before .before .before .pre in
     let f = rw (c .before .before .record-size .ensures) at (c .before .if3 .left) in
-    begin-short (a .profile) (a .from) (now (a .part)) (a .room) (h .0) (h .1 .0) (c .before .before .before .if2 .left) f (h .1 .1) .1
+    begin-short (a .profile) (standIn (a .from) (now (a .state))) (now (a .part)) (a .room) (h .0) (h .1 .0) (c .before .before .before .if2 .left) f (h .1 .1) .1
 
 add-now : tie.Need-add-now
 add-now c = search needs
@@ -52,8 +56,10 @@ returns-4 c =
     let h = c .before .before .before .before .before .before .before .pre in
     let f = rw (c .before .before .before .record-size .ensures) at (c .before .before .if3 .left) in
     let l = c .before .before .before .before .if2 .left in
-    let g = begin-short (a .profile) (a .from) (now (a .part)) (a .room) (h .0) (h .1 .0) l f (h .1 .1) .0 in
-    ended-begun (a .profile) (a .from) (now (a .part)) (a .room) (c .joined .result) _ (h .0) (h .1 .0) l f g (c .joined .ensures .0) (c .joined .ensures .1) refl
+    let g = begin-short (a .profile) (standIn (a .from) (now (a .state))) (now (a .part)) (a .room) (h .0) (h .1 .0) l f (h .1 .1) .0 in
+    let w = c .keep .last .0 in
+    let n = c .keep .ensures .0 in
+    ended-begun (a .profile) (standIn (a .from) (now (a .state))) (now (a .part)) (a .room) (heldIn w) _ (h .0) (h .1 .0) l f g (held-long w) (c .keep .ensures .1) (ap (λ (x : List ℕ). record { now = record { stage = a .from .stage; left = a .from .left; last = a .from .last; above = a .from .above; count = a .from .count; carried = a .from .carried + length (now (a .part)); numbers = x; held = heldIn w }; taken = length (now (a .part)); records = 0 }) n)
 
 pub begin-record-spec : {M : Type 1} → statement M
 begin-record-spec =
@@ -65,6 +71,6 @@ begin-record-spec =
     record-size-requires
     as-it-was-requires-2
     returns-3
-    joined-requires
+    keep-requires
     add-now
     returns-4)

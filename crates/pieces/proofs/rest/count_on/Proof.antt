@@ -4,6 +4,7 @@ use borrow.Author.Needs.{needs}
 use mathlib.Core.Path.{_≡_, refl, sym, ap, _∙_}
 use native.Mathlib.Omega.{arith}
 use denote.Ref.{now}
+use Rattle.pieces.specs.Record.{standIn, movedIn}
 use Rattle.pieces.proofs.Endings.{ended-counting}
 use Rattle.pieces.proofs.rest.count_on.Statement.{statement}
 use Rattle.pieces.proofs.rest.count_on.Tie as tie
@@ -18,7 +19,7 @@ returns : tie.Need-returns
 returns c =
     let a = c .before .before .args in
     let h = c .before .before .pre in
-    ended-counting (a .profile) (a .from) (now (a .part)) (c .smaller-of .result) _ (h .0) (h .1) (c .smaller-of .ensures) refl
+    ended-counting (a .profile) (standIn (a .from) (now (a .state))) (now (a .part)) (c .smaller-of .result) _ (h .0) (h .1) (c .smaller-of .ensures) refl
 
 pub count-on-spec : {M : Type 1} → statement M
 count-on-spec = tie.close (tie.spec smaller-of-requires sub-now returns)

@@ -5,7 +5,8 @@ use mathlib.Core.Path.{_≡_, refl, sym, ap, _∙_}
 use native.Mathlib.Omega.{arith}
 use denote.Ref.{now}
 use lib.ListN.{length, take, drop}
-use Rattle.pieces.specs.Record.{stateIn}
+use Rattle.pieces.specs.Record.{stateIn, standIn, movedIn}
+use Rattle.pieces.specs.declared.Walked.{Walked}
 use Rattle.pieces.proofs.Combining.{both-finished, filled-fits, short-lent, same-room}
 use Rattle.pieces.proofs.rest.finish_rows.Statement.{statement}
 use Rattle.pieces.proofs.rest.finish_rows.Tie as tie
@@ -18,15 +19,15 @@ record-size-requires c κs = search needs
 
 mul-room : tie.Need-mul-room
 mul-room c =
-    let a = c .before .before .before .before .before .before .before .before .args in
-    let t = filled-fits (a .profile) (stateIn (a .from)) (now (a .part)) (now (a .out)) (c .before .before .before .before .in-place .result) (c .before .before .before .before .in-place .last .1 .1 .1 .0) (c .before .before .before .before .in-place .ensures .0) (c .record-size .result) (c .record-size .ensures) in
-    let r = same-room (a .profile) (stateIn (a .from)) (now (a .part)) (now (a .out)) (c .before .before .before .before .in-place .result) (c .before .before .before .before .in-place .last .1 .1 .1 .0) (c .before .before .before .before .in-place .ensures .0) in
-    omega (arith, t, r, c .before .before .before .before .before .before .before .before .good)
+    let a = c .before .before .before .before .before .before .before .before .before .args in
+    let t = filled-fits (a .profile) (stateIn (standIn (a .from) (now (a .state)))) (now (a .part)) (now (a .out)) (movedIn (c .before .before .before .before .in-place .result) (now (a .state))) (c .before .before .before .before .in-place .last .1 .1 .1 .1 .0) (c .before .before .before .before .in-place .ensures .0) (c .record-size .result) (c .record-size .ensures) in
+    let r = same-room (a .profile) (stateIn (standIn (a .from) (now (a .state)))) (now (a .part)) (now (a .out)) (movedIn (c .before .before .before .before .in-place .result) (now (a .state))) (c .before .before .before .before .in-place .last .1 .1 .1 .1 .0) (c .before .before .before .before .in-place .ensures .0) in
+    omega (arith, t, r, c .before .before .before .before .before .before .before .before .before .good)
 
 sub-room : tie.Need-sub-room
 sub-room c =
-    let a = c .before .before .before .before .before .before .before .before .args in
-    filled-fits (a .profile) (stateIn (a .from)) (now (a .part)) (now (a .out)) (c .before .before .before .before .in-place .result) (c .before .before .before .before .in-place .last .1 .1 .1 .0) (c .before .before .before .before .in-place .ensures .0) (c .record-size .result) (c .record-size .ensures)
+    let a = c .before .before .before .before .before .before .before .before .before .args in
+    filled-fits (a .profile) (stateIn (standIn (a .from) (now (a .state)))) (now (a .part)) (now (a .out)) (movedIn (c .before .before .before .before .in-place .result) (now (a .state))) (c .before .before .before .before .in-place .last .1 .1 .1 .1 .0) (c .before .before .before .before .in-place .ensures .0) (c .record-size .result) (c .record-size .ensures)
 
 sub-finish : tie.Need-sub-finish
 sub-finish c = search needs
@@ -39,22 +40,22 @@ part-finish-end c = search needs
 
 finish-requires : tie.Need-finish-requires
 finish-requires c κs =
-    let a = c .before .before .before .before .before .before .before .before .before .args in
-    (c .before .before .before .before .before .in-place .ensures .0 .sits, short-lent (a .profile) (stateIn (a .from)) (now (a .part)) (now (a .out)) (c .before .before .before .before .before .in-place .result) (c .before .before .before .before .before .in-place .last .1 .1 .1 .0) (c .before .before .before .before .before .in-place .ensures .0) (c .before .record-size .result) (c .before .record-size .ensures) (stateIn (c .before .before .before .before .before .in-place .result .now)) (c .before .before .before .before .before .in-place .ensures .1))
+    let a = c .before .before .before .before .before .before .before .before .before .before .before .args in
+    (c .before .before .before .before .before .before .in-place .ensures .0 .sits, short-lent (a .profile) (stateIn (standIn (a .from) (now (a .state)))) (now (a .part)) (now (a .out)) (movedIn (c .before .before .before .before .before .before .in-place .result) (now (a .state))) (c .before .before .before .before .before .before .in-place .last .1 .1 .1 .1 .0) (c .before .before .before .before .before .before .in-place .ensures .0) (c .before .before .record-size .result) (c .before .before .record-size .ensures) (stateIn (standIn (c .before .before .before .before .before .before .in-place .result .now) (now (a .state)))) (c .before .before .before .before .before .before .in-place .ensures .1))
 
-add-t16 : tie.Need-add-t16
-add-t16 c =
-    let a = c .before .before .before .before .before .before .before .before .before .before .before .before .args in
-    let b = both-finished (a .profile) (stateIn (a .from)) (now (a .part)) (now (a .out)) (c .before .before .before .before .before .before .before .before .in-place .result) (c .before .before .before .before .before .before .before .before .in-place .last .1 .1 .1 .0) (c .before .before .before .before .before .before .before .before .in-place .ensures .0) (c .before .before .before .before .record-size .result) (c .before .before .before .before .record-size .ensures) _ refl (c .before .before .finish .result) (c .before .before .finish .ensures) _ refl in
-    omega (arith, b .0 .went .within, c .before .before .before .before .before .before .before .before .before .before .before .before .good)
+add-t18 : tie.Need-add-t18
+add-t18 c =
+    let a = c .before .before .before .before .before .before .before .before .before .before .before .before .before .before .args in
+    let b = both-finished (a .profile) (stateIn (standIn (a .from) (now (a .state)))) (now (a .part)) (now (a .out)) (movedIn (c .before .before .before .before .before .before .before .before .before .in-place .result) (now (a .state))) (c .before .before .before .before .before .before .before .before .before .in-place .last .1 .1 .1 .1 .0) (c .before .before .before .before .before .before .before .before .before .in-place .ensures .0) (c .before .before .before .before .before .record-size .result) (c .before .before .before .before .before .record-size .ensures) _ refl (movedIn (c .before .before .finish .result) (c .before .before .finish .last .1 .1 .0)) (c .before .before .finish .ensures) _ refl in
+    omega (arith, b .0 .went .within, c .before .before .before .before .before .before .before .before .before .before .before .before .before .before .good)
 
 same-length : tie.Need-same-length
 same-length c = search needs
 
 returns : tie.Need-returns
 returns c =
-    let a = c .before .before .before .before .before .before .before .before .before .before .before .before .args in
-    both-finished (a .profile) (stateIn (a .from)) (now (a .part)) (now (a .out)) (c .before .before .before .before .before .before .before .before .in-place .result) (c .before .before .before .before .before .before .before .before .in-place .last .1 .1 .1 .0) (c .before .before .before .before .before .before .before .before .in-place .ensures .0) (c .before .before .before .before .record-size .result) (c .before .before .before .before .record-size .ensures) _ refl (c .before .before .finish .result) (c .before .before .finish .ensures) _ refl
+    let a = c .before .before .before .before .before .before .before .before .before .before .before .before .before .before .args in
+    both-finished (a .profile) (stateIn (standIn (a .from) (now (a .state)))) (now (a .part)) (now (a .out)) (movedIn (c .before .before .before .before .before .before .before .before .before .in-place .result) (now (a .state))) (c .before .before .before .before .before .before .before .before .before .in-place .last .1 .1 .1 .1 .0) (c .before .before .before .before .before .before .before .before .before .in-place .ensures .0) (c .before .before .before .before .before .record-size .result) (c .before .before .before .before .before .record-size .ensures) _ refl (movedIn (c .before .before .finish .result) (c .before .before .finish .last .1 .1 .0)) (c .before .before .finish .ensures) _ refl
 
 pub finish-rows-spec : {M : Type 1} → statement M
 finish-rows-spec =
@@ -68,6 +69,6 @@ finish-rows-spec =
     part-finish-start
     part-finish-end
     finish-requires
-    add-t16
+    add-t18
     same-length
     returns)

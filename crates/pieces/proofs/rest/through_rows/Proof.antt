@@ -5,7 +5,8 @@ use mathlib.Core.Path.{_≡_, refl, sym, ap, _∙_}
 use native.Mathlib.Omega.{arith}
 use denote.Ref.{now}
 use lib.ListN.{length, take, drop}
-use Rattle.pieces.specs.Record.{stateIn}
+use Rattle.pieces.specs.Record.{stateIn, standIn, movedIn}
+use Rattle.pieces.specs.declared.Walked.{Walked}
 use Rattle.pieces.proofs.Combining.{both-rows, filled-fits, begun-lent, same-room, few-records}
 use Rattle.pieces.proofs.rest.through_rows.Statement.{statement}
 use Rattle.pieces.proofs.rest.through_rows.Tie as tie
@@ -18,10 +19,10 @@ record-size-requires c κs = search needs
 
 mul-filled : tie.Need-mul-filled
 mul-filled c =
-    let a = c .before .before .before .before .before .before .before .before .args in
-    let t = filled-fits (a .profile) (stateIn (a .from)) (now (a .part)) (now (a .out)) (c .before .before .before .before .complete .result) (c .before .before .before .before .complete .last .1 .1 .1 .0) (c .before .before .before .before .complete .ensures .0) (c .record-size .result) (c .record-size .ensures) in
-    let r = same-room (a .profile) (stateIn (a .from)) (now (a .part)) (now (a .out)) (c .before .before .before .before .complete .result) (c .before .before .before .before .complete .last .1 .1 .1 .0) (c .before .before .before .before .complete .ensures .0) in
-    omega (arith, t, r, c .before .before .before .before .before .before .before .before .good)
+    let a = c .before .before .before .before .before .before .before .before .before .args in
+    let t = filled-fits (a .profile) (stateIn (standIn (a .from) (now (a .state)))) (now (a .part)) (now (a .out)) (movedIn (c .before .before .before .before .complete .result) (now (a .state))) (c .before .before .before .before .complete .last .1 .1 .1 .1 .0) (c .before .before .before .before .complete .ensures .0) (c .record-size .result) (c .record-size .ensures) in
+    let r = same-room (a .profile) (stateIn (standIn (a .from) (now (a .state)))) (now (a .part)) (now (a .out)) (movedIn (c .before .before .before .before .complete .result) (now (a .state))) (c .before .before .before .before .complete .last .1 .1 .1 .1 .0) (c .before .before .before .before .complete .ensures .0) in
+    omega (arith, t, r, c .before .before .before .before .before .before .before .before .before .good)
 
 sub-finish-rows : tie.Need-sub-finish-rows
 sub-finish-rows c = search needs
@@ -34,41 +35,41 @@ part-finish-rows-end c = search needs
 
 sub-finish-rows-2 : tie.Need-sub-finish-rows-2
 sub-finish-rows-2 c =
-    let a = c .before .before .before .before .before .before .before .before .before .args in
-    filled-fits (a .profile) (stateIn (a .from)) (now (a .part)) (now (a .out)) (c .before .before .before .before .before .complete .result) (c .before .before .before .before .before .complete .last .1 .1 .1 .0) (c .before .before .before .before .before .complete .ensures .0) (c .before .record-size .result) (c .before .record-size .ensures)
+    let a = c .before .before .before .before .before .before .before .before .before .before .before .args in
+    filled-fits (a .profile) (stateIn (standIn (a .from) (now (a .state)))) (now (a .part)) (now (a .out)) (movedIn (c .before .before .before .before .before .before .complete .result) (now (a .state))) (c .before .before .before .before .before .before .complete .last .1 .1 .1 .1 .0) (c .before .before .before .before .before .before .complete .ensures .0) (c .before .before .record-size .result) (c .before .before .record-size .ensures)
 
 part-finish-rows-start-2 : tie.Need-part-finish-rows-start-2
 part-finish-rows-start-2 c =
-    let a = c .before .before .before .before .before .before .before .before .before .args in
-    filled-fits (a .profile) (stateIn (a .from)) (now (a .part)) (now (a .out)) (c .before .before .before .before .before .complete .result) (c .before .before .before .before .before .complete .last .1 .1 .1 .0) (c .before .before .before .before .before .complete .ensures .0) (c .before .record-size .result) (c .before .record-size .ensures)
+    let a = c .before .before .before .before .before .before .before .before .before .before .before .args in
+    filled-fits (a .profile) (stateIn (standIn (a .from) (now (a .state)))) (now (a .part)) (now (a .out)) (movedIn (c .before .before .before .before .before .before .complete .result) (now (a .state))) (c .before .before .before .before .before .before .complete .last .1 .1 .1 .1 .0) (c .before .before .before .before .before .before .complete .ensures .0) (c .before .before .record-size .result) (c .before .before .record-size .ensures)
 
 part-finish-rows-end-2 : tie.Need-part-finish-rows-end-2
 part-finish-rows-end-2 c = search needs
 
 finish-rows-requires : tie.Need-finish-rows-requires
 finish-rows-requires c κs =
-    let a = c .before .before .before .before .before .before .before .before .before .before .args in
-    (c .before .before .before .before .before .before .complete .ensures .0 .sits, begun-lent (a .profile) (stateIn (c .before .before .before .before .before .before .complete .result .now)) (now (a .part)) (c .before .before .before .before .before .before .complete .result .taken) (c .before .before .before .before .before .before .complete .ensures .1))
+    let a = c .before .before .before .before .before .before .before .before .before .before .before .before .args in
+    (c .before .before .before .before .before .before .before .complete .ensures .0 .sits, begun-lent (a .profile) (stateIn (standIn (c .before .before .before .before .before .before .before .complete .result .now) (now (a .state)))) (now (a .part)) (c .before .before .before .before .before .before .before .complete .result .taken) (c .before .before .before .before .before .before .before .complete .ensures .1))
 
-add-t14 : tie.Need-add-t14
-add-t14 c =
-    let a = c .before .before .before .before .before .before .before .before .before .before .before .before .before .before .before .args in
-    let b = both-rows (a .profile) (stateIn (a .from)) (now (a .part)) (now (a .out)) (c .before .before .before .before .before .before .before .before .before .before .before .complete .result) (c .before .before .before .before .before .before .before .before .before .before .before .complete .last .1 .1 .1 .0) (c .before .before .before .before .before .before .before .before .before .before .before .complete .ensures .0) (c .before .before .before .before .before .before .before .record-size .result) (c .before .before .before .before .before .before .before .record-size .ensures) (c .before .before .before .before .finish-rows .result) (c .before .before .before .before .finish-rows .last .1 .1 .1 .0) (c .before .before .before .before .finish-rows .ensures) _ refl in
-    omega (arith, b .0 .went .within, c .before .before .before .before .before .before .before .before .before .before .before .before .before .before .before .good)
+add-t16 : tie.Need-add-t16
+add-t16 c =
+    let a = c .before .before .before .before .before .before .before .before .before .before .before .before .before .before .before .before .before .args in
+    let b = both-rows (a .profile) (stateIn (standIn (a .from) (now (a .state)))) (now (a .part)) (now (a .out)) (movedIn (c .before .before .before .before .before .before .before .before .before .before .before .before .complete .result) (now (a .state))) (c .before .before .before .before .before .before .before .before .before .before .before .before .complete .last .1 .1 .1 .1 .0) (c .before .before .before .before .before .before .before .before .before .before .before .before .complete .ensures .0) (c .before .before .before .before .before .before .before .before .record-size .result) (c .before .before .before .before .before .before .before .before .record-size .ensures) (movedIn (c .before .before .before .before .finish-rows .result) (c .before .before .before .before .finish-rows .last .1 .1 .0)) (c .before .before .before .before .finish-rows .last .1 .1 .1 .1 .0) (c .before .before .before .before .finish-rows .ensures) _ refl in
+    omega (arith, b .0 .went .within, c .before .before .before .before .before .before .before .before .before .before .before .before .before .before .before .before .before .good)
 
-add-t19 : tie.Need-add-t19
-add-t19 c =
-    let a = c .before .before .before .before .before .before .before .before .before .before .before .before .before .before .before .before .args in
-    let b = both-rows (a .profile) (stateIn (a .from)) (now (a .part)) (now (a .out)) (c .before .before .before .before .before .before .before .before .before .before .before .before .complete .result) (c .before .before .before .before .before .before .before .before .before .before .before .before .complete .last .1 .1 .1 .0) (c .before .before .before .before .before .before .before .before .before .before .before .before .complete .ensures .0) (c .before .before .before .before .before .before .before .before .record-size .result) (c .before .before .before .before .before .before .before .before .record-size .ensures) (c .before .before .before .before .before .finish-rows .result) (c .before .before .before .before .before .finish-rows .last .1 .1 .1 .0) (c .before .before .before .before .before .finish-rows .ensures) _ refl in
-    omega (arith, few-records (a .profile) (stateIn (a .from)) (now (a .part)) (now (a .out)) _ _ (b .0), c .before .before .before .before .before .before .before .before .before .before .before .before .before .before .before .before .good)
+add-t22 : tie.Need-add-t22
+add-t22 c =
+    let a = c .before .before .before .before .before .before .before .before .before .before .before .before .before .before .before .before .before .before .args in
+    let b = both-rows (a .profile) (stateIn (standIn (a .from) (now (a .state)))) (now (a .part)) (now (a .out)) (movedIn (c .before .before .before .before .before .before .before .before .before .before .before .before .before .complete .result) (now (a .state))) (c .before .before .before .before .before .before .before .before .before .before .before .before .before .complete .last .1 .1 .1 .1 .0) (c .before .before .before .before .before .before .before .before .before .before .before .before .before .complete .ensures .0) (c .before .before .before .before .before .before .before .before .before .record-size .result) (c .before .before .before .before .before .before .before .before .before .record-size .ensures) (movedIn (c .before .before .before .before .before .finish-rows .result) (c .before .before .before .before .before .finish-rows .last .1 .1 .0)) (c .before .before .before .before .before .finish-rows .last .1 .1 .1 .1 .0) (c .before .before .before .before .before .finish-rows .ensures) _ refl in
+    omega (arith, few-records (a .profile) (stateIn (standIn (a .from) (now (a .state)))) (now (a .part)) (now (a .out)) _ _ (b .0), c .before .before .before .before .before .before .before .before .before .before .before .before .before .before .before .before .before .before .good)
 
 same-length : tie.Need-same-length
 same-length c = search needs
 
 returns : tie.Need-returns
 returns c =
-    let a = c .before .before .before .before .before .before .before .before .before .before .before .before .before .before .before .before .args in
-    both-rows (a .profile) (stateIn (a .from)) (now (a .part)) (now (a .out)) (c .before .before .before .before .before .before .before .before .before .before .before .before .complete .result) (c .before .before .before .before .before .before .before .before .before .before .before .before .complete .last .1 .1 .1 .0) (c .before .before .before .before .before .before .before .before .before .before .before .before .complete .ensures .0) (c .before .before .before .before .before .before .before .before .record-size .result) (c .before .before .before .before .before .before .before .before .record-size .ensures) (c .before .before .before .before .before .finish-rows .result) (c .before .before .before .before .before .finish-rows .last .1 .1 .1 .0) (c .before .before .before .before .before .finish-rows .ensures) _ refl
+    let a = c .before .before .before .before .before .before .before .before .before .before .before .before .before .before .before .before .before .before .args in
+    both-rows (a .profile) (stateIn (standIn (a .from) (now (a .state)))) (now (a .part)) (now (a .out)) (movedIn (c .before .before .before .before .before .before .before .before .before .before .before .before .before .complete .result) (now (a .state))) (c .before .before .before .before .before .before .before .before .before .before .before .before .before .complete .last .1 .1 .1 .1 .0) (c .before .before .before .before .before .before .before .before .before .before .before .before .before .complete .ensures .0) (c .before .before .before .before .before .before .before .before .before .record-size .result) (c .before .before .before .before .before .before .before .before .before .record-size .ensures) (movedIn (c .before .before .before .before .before .finish-rows .result) (c .before .before .before .before .before .finish-rows .last .1 .1 .0)) (c .before .before .before .before .before .finish-rows .last .1 .1 .1 .1 .0) (c .before .before .before .before .before .finish-rows .ensures) _ refl
 
 pub through-rows-spec : {M : Type 1} → statement M
 through-rows-spec =
@@ -84,7 +85,7 @@ through-rows-spec =
     part-finish-rows-start-2
     part-finish-rows-end-2
     finish-rows-requires
-    add-t14
-    add-t19
+    add-t16
+    add-t22
     same-length
     returns)

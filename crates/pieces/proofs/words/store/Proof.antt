@@ -1,86 +1,84 @@
--- `pieces::words::store` meets its contract: zeros, with all that is said laid over them.
+-- `pieces::words::store` meets its contract: the words that say nothing become 0, and the first seven are set.
 -- Assumes nothing.
 use borrow.Author.Needs.{needs}
 use mathlib.Core.Path.{_≡_, refl, sym, ap, _∙_}
 use native.Mathlib.Omega.{arith}
 use denote.Ref.{now}
-use lib.ListN.{length, take, drop}
-use lib.Seq.{length-take-le}
-use Rattle.pieces.proofs.Encoding.{stored}
+use Rattle.pieces.proofs.Laying.{behind-laid, stored}
 use Rattle.pieces.proofs.words.store.Statement.{statement}
 use Rattle.pieces.proofs.words.store.Tie as tie
 
 tidied-requires : tie.Need-tidied-requires
 tidied-requires c κs = search needs
 
+all-of-requires : tie.Need-all-of-requires
+all-of-requires c κs = search needs
+
+cut-requires : tie.Need-cut-requires
+cut-requires c κs = search needs
+
+add-clear : tie.Need-add-clear
+add-clear c = search needs
+
+clear-requires : tie.Need-clear-requires
+clear-requires c κs = search needs
+
+add-clear-2 : tie.Need-add-clear-2
+add-clear-2 c = search needs
+
+clear-requires-2 : tie.Need-clear-requires-2
+clear-requires-2 c κs = search needs
+
 number-of-requires : tie.Need-number-of-requires
 number-of-requires c κs = search needs
 
-array-write-words : tie.Need-array-write-words
-array-write-words c = search needs
+element-write-state : tie.Need-element-write-state
+element-write-state c = search needs
 
-array-write-words-2 : tie.Need-array-write-words-2
-array-write-words-2 c = search needs
+element-write-state-2 : tie.Need-element-write-state-2
+element-write-state-2 c = search needs
 
-array-write-words-3 : tie.Need-array-write-words-3
-array-write-words-3 c = search needs
+element-write-state-3 : tie.Need-element-write-state-3
+element-write-state-3 c = search needs
 
-array-write-words-4 : tie.Need-array-write-words-4
-array-write-words-4 c = search needs
+element-write-state-4 : tie.Need-element-write-state-4
+element-write-state-4 c = search needs
 
-array-write-words-5 : tie.Need-array-write-words-5
-array-write-words-5 c = search needs
+element-write-state-5 : tie.Need-element-write-state-5
+element-write-state-5 c = search needs
 
-array-write-words-6 : tie.Need-array-write-words-6
-array-write-words-6 c = search needs
+element-write-state-6 : tie.Need-element-write-state-6
+element-write-state-6 c = search needs
 
-array-write-words-7 : tie.Need-array-write-words-7
-array-write-words-7 c = search needs
-
-array-share-prefix-numbers : tie.Need-array-share-prefix-numbers
-array-share-prefix-numbers c = let l : length (c .before .before .before .before .tidied .result .numbers) ≡ 25 = search needs in omega (arith, c .before .before .before .before .tidied .ensures .1, c .before .before .before .before .before .pre)
-
-slice-aggregate-put-numbers : tie.Need-slice-aggregate-put-numbers
-slice-aggregate-put-numbers c = let l : length (c .before .before .before .before .before .tidied .result .numbers) ≡ 25 = search needs in sym (length-take-le _ _ (omega (arith, c .before .before .before .before .before .tidied .ensures .1, c .before .before .before .before .before .before .pre)))
-
-put-numbers-requires : tie.Need-put-numbers-requires
-put-numbers-requires c κs = let l : length (c .before .before .before .before .before .tidied .result .numbers) ≡ 25 = search needs in omega (arith, length-take-le (c .before .before .before .before .before .tidied .result .count) (c .before .before .before .before .before .tidied .result .numbers) (omega (arith, c .before .before .before .before .before .tidied .ensures .1, c .before .before .before .before .before .before .pre)), c .before .before .before .before .before .tidied .ensures .1, c .before .before .before .before .before .before .pre)
-
-array-share-prefix-held : tie.Need-array-share-prefix-held
-array-share-prefix-held c = let l : length (c .before .before .before .before .before .before .before .tidied .result .held) ≡ 24 = search needs in omega (arith, c .before .before .before .before .before .before .before .tidied .ensures .1, c .before .before .before .before .before .before .before .before .pre)
-
-slice-aggregate-put-held : tie.Need-slice-aggregate-put-held
-slice-aggregate-put-held c = let l : length (c .before .before .before .before .before .before .before .before .tidied .result .held) ≡ 24 = search needs in sym (length-take-le _ _ (omega (arith, c .before .before .before .before .before .before .before .before .tidied .ensures .1, c .before .before .before .before .before .before .before .before .before .pre)))
-
-put-held-requires : tie.Need-put-held-requires
-put-held-requires c κs = let l : length (c .before .before .before .before .before .before .before .before .tidied .result .held) ≡ 24 = search needs in omega (arith, length-take-le (c .before .before .before .before .before .before .before .before .tidied .result .carried) (c .before .before .before .before .before .before .before .before .tidied .result .held) (omega (arith, c .before .before .before .before .before .before .before .before .tidied .ensures .1, c .before .before .before .before .before .before .before .before .before .pre)), c .before .before .before .before .before .before .before .before .tidied .ensures .1, c .before .before .before .before .before .before .before .before .before .pre)
+element-write-state-7 : tie.Need-element-write-state-7
+element-write-state-7 c = search needs
 
 returns : tie.Need-returns
 returns c =
+    let a = c .before .before .before .before .before .before .before .before .before .before .args in
     let t = c .before .before .before .before .before .before .before .before .before .tidied in
-    let m : length (t .result .numbers) ≡ 25 = search needs in
-    let h : length (t .result .held) ≡ 24 = search needs in
-    let n = c .before .before .before .before .before .before .number-of in
-    let l = c .before .before .before .before .before .before .before .before .before .before .pre in
-    stored (c .before .before .before .before .before .before .before .before .before .before .args .profile) (t .result) _ (n .result) _ _ (omega (arith, t .ensures .1, l)) (omega (arith, t .ensures .1, l)) m h (n .ensures) (c .before .before .before .put-numbers .ensures .1) (c .put-held .ensures .1) (t .ensures .0)
+    let l = c .before .before .before .before .before .before .before .all-of .ensures .1 in
+    let e = rw (c .before .before .before .before .before .before .before .all-of .ensures .0) at (c .before .clear2 .ensures) in
+    stored (a .profile) (t .result) _ (c .number-of .result) (now (a .state)) (c .before .clear2 .last .0) l (omega (arith, c .before .before .before .before .before .before .before .before .before .before .pre .0, t .ensures .1 .0)) (omega (arith, c .before .before .before .before .before .before .before .before .before .before .pre .1, t .ensures .1 .1)) (omega (arith, l, c .before .before .before .before .before .cut .ensures .long, c .before .before .before .clear .ensures .long, c .before .clear2 .ensures .long))
+    (behind-laid (now (a .state)) (t .result .count) (t .result .carried) l (omega (arith, c .before .before .before .before .before .before .before .before .before .before .pre .0, t .ensures .1 .0)) (omega (arith, c .before .before .before .before .before .before .before .before .before .before .pre .1, t .ensures .1 .1)) (c .before .before .before .before .before .cut .last .0) (c .before .before .before .clear .last .0) (c .before .clear2 .last .0) (c .before .before .before .before .before .cut .ensures) (c .before .before .before .clear .ensures) e) (c .number-of .ensures) (t .ensures .0 (now (a .state)))
 
 pub store-spec : {M : Type 1} → statement M
 store-spec =
     tie.close
     (tie.spec
     tidied-requires
+    all-of-requires
+    cut-requires
+    add-clear
+    clear-requires
+    add-clear-2
+    clear-requires-2
     number-of-requires
-    array-write-words
-    array-write-words-2
-    array-write-words-3
-    array-write-words-4
-    array-write-words-5
-    array-write-words-6
-    array-write-words-7
-    array-share-prefix-numbers
-    slice-aggregate-put-numbers
-    put-numbers-requires
-    array-share-prefix-held
-    slice-aggregate-put-held
-    put-held-requires
+    element-write-state
+    element-write-state-2
+    element-write-state-3
+    element-write-state-4
+    element-write-state-5
+    element-write-state-6
+    element-write-state-7
     returns)
