@@ -24,8 +24,8 @@ use Rattle.pieces.specs.Record.{profileOf, profileIn, numbersIn, heldIn,
 use Rattle.pieces.specs.Fitness.{fit, standFit, consistent}
 use Rattle.pieces.specs.Serving.{Ready}
 use Rattle.pieces.specs.Kept.{numbersAt, heldAt, Kept}
-use Rattle.pieces.proofs.Encoding.{padded-long}
 use Rattle.pieces.proofs.Fits.{both, ready-fit}
+use Rattle.pieces.proofs.Laying.{padded-long, zeros}
 use Rattle.pieces.proofs.Loading.{numbers-long, held-long, number-at, byte-at}
 use Rattle.pieces.proofs.Prefix.{ends-short}
 use Rattle.pieces.proofs.Staying.{octets-none}
@@ -48,11 +48,6 @@ module _ (n stage left last above : ℕ) (ns held : List ℕ) (h : length ns ≤
       let k : i < 25 = omega (arith, numbers-long w) in
       number-at w i k ∙ ap (λ (x : List ℕ). getD x (7 + i) 0) parts ∙ getD-append-add front (padded 25 ns ++ padded 24 held) i 0
       ∙ List·getD-append (padded 25 ns) (padded 24 held) 0 i (omega (arith, padded-long 25 ns h)))
-
-  zeros : (k i : ℕ) → getD {A = ℕ} (replicate k 0) i 0 ≡ 0
-  zeros zero i = refl
-  zeros (suc k) zero = refl
-  zeros (suc k) (suc i) = zeros k i
 
   octet : (xs : List ℕ) (k i : ℕ) → Octets xs → getD (xs ++ replicate k 0) i 0 < 256
   octet [] k i q = rw (zeros k i) (omega arith)

@@ -5,7 +5,7 @@ use mathlib.Core.Path.{_≡_, refl, sym, ap, ap₂, _∙_}
 use mathlib.Core.List.{List, [], _∷_, _++_}
 use native.Mathlib.Nat.{mod-eq-of-lt}
 use native.Mathlib.Omega.{arith}
-use lib.ListN.{length, getD, take, drop, set, replicate, length-set, length-append, length-drop, List·getD-append, List·getD-eq-default}
+use lib.ListN.{length, getD, take, drop, set, replicate, length-set, length-append, length-drop, length-replicate, List·getD-append}
 use lib.Seq.{length-take-le, ext-getD, getD-set-same, getD-set-other, getD-take, getD-drop, getD-append-add}
 use Rattle.wire.proofs.Lengths.{split}
 use Rattle.entries.specs.Profiles.{numberOf}
@@ -13,7 +13,6 @@ use Rattle.entries.specs.declared.Profile.{Profile}
 use Rattle.uncut.specs.State.{State}
 use Rattle.pieces.specs.Record.{numbersIn, heldIn, standIn, padded, bodyAs, bodyIn, bodyOf, wordsOf, Laid}
 use Rattle.pieces.specs.declared.Marks.{Marks}
-use Rattle.pieces.proofs.Encoding.{padded-long}
 use Rattle.pieces.proofs.Loading.{numbers-long, held-long, number-at, byte-at}
 
 -- ---- one word more
@@ -111,7 +110,10 @@ fronted (x0 ∷ x1 ∷ x2 ∷ x3 ∷ x4 ∷ []) a b c d e f g h = absurd (omega 
 fronted (x0 ∷ x1 ∷ x2 ∷ x3 ∷ x4 ∷ x5 ∷ []) a b c d e f g h = absurd (omega arith)
 fronted (x0 ∷ x1 ∷ x2 ∷ x3 ∷ x4 ∷ x5 ∷ x6 ∷ xs) a b c d e f g h = refl
 
-zeros : (k i : ℕ) → getD {A = ℕ} (replicate k 0) i 0 ≡ 0
+pub padded-long : (k : ℕ) (xs : List ℕ) → length xs ≤ k → length (padded k xs) ≡ k
+padded-long k xs h = length-append xs (replicate (k - length xs) 0) ∙ ap (λ (n : ℕ). length xs + n) (length-replicate (k - length xs) 0) ∙ omega arith
+
+pub zeros : (k i : ℕ) → getD {A = ℕ} (replicate k 0) i 0 ≡ 0
 zeros zero i = refl
 zeros (suc k) zero = refl
 zeros (suc k) (suc i) = zeros k i

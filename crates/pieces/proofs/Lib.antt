@@ -6,7 +6,6 @@ pub mod Loading
 pub mod Stages
 pub mod Prefix
 pub mod Keeping
-pub mod Encoding
 pub mod Laying
 pub mod Numbering
 pub mod Fits

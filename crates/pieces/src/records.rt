@@ -113,6 +113,7 @@ fn row_here(stage: u64, carried: usize) -> bool
 }
 
 // Takes the records that lie whole in the part, as many as are to come and fit the buffer, up to the first bad one.
+// Of the words only the contract speaks.
 pub(crate) fn in_place(
     profile: Profile,
     from: Marks,

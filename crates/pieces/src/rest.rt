@@ -59,7 +59,7 @@ fn begin_record(
     }
 }
 
-// A bad record came: its report's entry bytes are counted on.
+// A bad record came: its report's entry bytes are counted on. Of the words only the contract speaks.
 fn count_on(profile: Profile, from: Marks, state: &[u64; WORDS], part: &[u8]) -> Walked
     requires { ⌜ (Sits profile (standIn from (now state))) × (from .stage ≡ 2) ⌝ }
     ensures { λ r. ⌜ (((out : List ℕ) → Served profile (stateIn (standIn from (now (state .entry)))) (now (part .entry)) out (movedIn r (now (state .entry))) out) × ((room : ℕ) → taking profile room (stateIn (standIn (r .now) (now (state .entry)))) (drop (r .taken) (now (part .entry))) ≡ 0)) × (r .records ≡ 0) ⌝ }

@@ -20,7 +20,7 @@ use crate::Marks;
 use crate::WORDS;
 use entries::Profile;
 
-// How many words there are. A caller's proof learns from it that there are so many.
+// How many words there are. A proof knows of words that are lent only that they may be read and written; here it learns their number.
 pub(crate) fn all_of(state: &[u64; WORDS]) -> usize
     ensures { λ r. ⌜ (r ≡ 56) × (length (now (state .entry)) ≡ 56) ⌝ }
 {
