@@ -26,8 +26,8 @@ double send_numbers(const struct side *side, int kind, int round);
 double hear_acks(const struct side *side, int kind, int round);
 double hear_stream(const struct side *side, int kind, int round);
 
-/* A report of 50 entries in parts of 1,200, 64 or 1 bytes; see IN_PARTS. */
-enum { PART_LENGTHS = 3 };
+/* A report of 50 entries in one part, or in parts of 1,200, 64 or 1 bytes; see IN_PARTS. */
+enum { PART_LENGTHS = 4 };
 #define IN_PARTS(profile, which) (PART_LENGTHS * ((profile) - 1) + (which))
 double read_in_parts(const struct side *side, int kind, int round);
 

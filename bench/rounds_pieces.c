@@ -4,8 +4,8 @@
 #include "clock.h"
 #include "inputs.h"
 
-/* The first holds the whole report, as a packet would; then a short read, and a byte. */
-static const size_t part_lengths[PART_LENGTHS] = {1200, 64, 1};
+/* The first holds a whole report of either profile, the next one of profile 1; then a short read, and a byte. */
+static const size_t part_lengths[PART_LENGTHS] = {1500, 1200, 64, 1};
 
 /* One report from the opening to the end, through a buffer for all its entries, which the caller has read after each part. */
 static inline uint64_t one_report(const struct side *side, uint64_t profile, const uint8_t *bytes, size_t length, size_t part)

@@ -214,18 +214,14 @@ fn any_parts<'a>(random: &mut Random, bytes: &'a [u8]) -> Vec<&'a [u8]> {
     parts
 }
 
-/// Every report of the other comparisons comes here: cut at random places, some of them byte by byte, and those of the first
-/// rounds, and of the others some, at every single place.
+/// Every report of the other comparisons comes here: cut at random places and at every single place, and some byte by byte.
 pub fn compare_cut(random: &mut Random, tally: &mut Tally, profile: u64, bytes: &[u8]) -> Result<(), String> {
     let parts = any_parts(random, bytes);
     compare_parts(random, tally, profile, bytes, parts.into_iter())?;
     if random.below(20 + bytes.len() as u64) < 2 {
         compare_parts(random, tally, profile, bytes, bytes.chunks(1))?;
     }
-    if tally.cuts_everywhere || random.below(256) == 0 {
-        compare_everywhere(random, tally, profile, bytes)?;
-    }
-    Ok(())
+    compare_everywhere(random, tally, profile, bytes)
 }
 
 /// A made-up record: each clause of consistency broken by itself, words near their edges, any words at all; each then with a part

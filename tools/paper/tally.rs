@@ -14,8 +14,6 @@ pub struct Tally {
     results: BTreeMap<(&'static str, u64), usize>,
     causes: BTreeMap<u64, usize>,
     moments: BTreeMap<&'static str, usize>,
-    /// Whether every report is now cut at every single place.
-    pub cuts_everywhere: bool,
 }
 
 /// One call: what it was given, what the papers answer and what the archive answered.
