@@ -7,6 +7,8 @@ pub mod Maximal
 pub mod Emits
 pub mod Only
 pub mod Short
-pub mod Inword
+pub mod Ends
+pub mod Least
+pub mod Lent
 pub mod Walking
 pub mod Framing

@@ -1,7 +1,7 @@
 -- The ranges of the window, downwards place by place: each step passes what is missing and takes a run of received numbers.
 -- Assumes nothing.
 use Prim.Native.Nat.{ℕ, zero, suc, _+_, _-_, _*_, _≤_, _<_}
-use mathlib.Core.Path.{_≡_, refl, sym, ap, _∙_, subst}
+use mathlib.Core.Path.{_≡_, refl, sym, ap, _∙_}
 use mathlib.Core.Bool.{Bool, true, false, _&&_, _||_}
 use mathlib.Core.List.{List, [], _∷_}
 use native.Mathlib.Omega.{arith}
@@ -10,8 +10,7 @@ use lib.Dec.{eqb, leb}
 use lib.ListN.{length, take}
 use Rattle.wire.specs.Numbers.{limit}
 use Rattle.wire.proofs.Lengths.{split}
-use Rattle.window.specs.Window.{valueOf, lentValue, isSet, runBelow, noneBelow}
-use Rattle.window.proofs.Sixteen.{Sixteen, lent-value}
+use Rattle.window.specs.Window.{valueOf, isSet, runBelow, noneBelow}
 use Rattle.window.proofs.Runs.{run-on, run-off, run-le}
 use Rattle.window.proofs.Laws.{run-says, none-says}
 use Rattle.frames.specs.Ack.{gapsFrom}
@@ -72,12 +71,6 @@ run-pos b p w h e =
     omega (arith, ap (λ (m : ℕ). runBelow b m w) n, run-on b (p - 1) w e)
 
 -- how far a step goes; where it takes nothing, nothing is left
--- as the code finds them in the words that it lends
-pub ranged : (s : Seen) → Sixteen (s .window .words) → (p m z : ℕ)
-    → (m ≡ runBelow false p (lentValue (s .window .words))) × (z ≡ runBelow true (p - runBelow false p (lentValue (s .window .words))) (lentValue (s .window .words)))
-    → (m ≡ missing s p) × (z ≡ size s p)
-ranged s h p m z r = subst (λ (w : ℕ). (m ≡ runBelow false p w) × (z ≡ runBelow true (p - runBelow false p w) w)) (lent-value (s .window .words) h) r
-
 pub missing-le : (s : Seen) (p : ℕ) → missing s p ≤ p
 missing-le s p = run-le false p (valueOf (s .window))
 
@@ -91,16 +84,6 @@ size-pos s p h =
 
 pub size-none : (s : Seen) (p : ℕ) → size s p ≡ 0 → top s p ≡ 0
 size-none s p e = split (top s p) 0 (λ h. omega arith) (λ h. omega (arith, size-pos s p h))
-
--- below the place of number 0 there is no range
-pub nothing-below : {s : Seen} → Begun s → (p : ℕ) → p ≤ 1024 - s .end → top s p ≡ 0
-nothing-below {s} b p l =
-    let w : ℕ = valueOf (s .window) in
-    split (top s p) 0 (λ h. omega arith)
-    (λ h.
-    let r = run-says false p w (missing s p) refl in
-    let f : true ≡ false = sym (not-false-true (isSet w (top s p - 1)) (r .ends (omega arith))) ∙ none-says (1024 - s .end) w (b .none) (top s p - 1) (omega arith) in
-    let z : _≡_ {A = ℕ} 0 1 = cc in absurd (omega arith))
 
 -- the first range starts at L
 pub first-top : {s : Seen} → Begun s → top s 1024 ≡ 1024
@@ -152,7 +135,7 @@ run-length e u l n i g = omega arith
 -- ---- the list of ranges
 
 module _ (s : Seen) where
-  none-left : (n p : ℕ) → top s p ≡ 0 → rangesBelow n s p ≡ []
+  pub none-left : (n p : ℕ) → top s p ≡ 0 → rangesBelow n s p ≡ []
   unfolding rangesBelow
   none-left zero p e = refl
   none-left (suc n) p e = rw (e, rangesBelow)
@@ -162,7 +145,7 @@ module _ (s : Seen) where
   unfolding rangesBelow
   some-at n p t e = rw (e, rangesBelow, e)
 
-  some-left : (n p : ℕ) → 0 < top s p
+  pub some-left : (n p : ℕ) → 0 < top s p
       → rangesBelow (suc n) s p ≡ numberAt (s .end) (low s p) ∷ numberAt (s .end) (top s p - 1) ∷ rangesBelow n s (low s p)
   some-left n p h = some-at n p (top s p - 1) (omega arith)
 

@@ -1,25 +1,23 @@
--- What is reported, the marks from the floor up: it is consistent where what was received is, and the same where the floor is the window's own.
+-- What is reported, the marks from the floor up: it is consistent where what was received is.
 -- Assumes nothing.
 use Prim.Native.Nat.{ℕ, _+_, _-_, _≤_, _<_}
 use mathlib.Core.Path.{_≡_, sym, ap, ap₂, _∙_}
 use mathlib.Core.Bool.{Bool, true, false, _&&_, _||_}
-use native.Mathlib.Nat.{max-le, max-eq-right, le-max-right}
+use native.Mathlib.Nat.{max-le, le-max-right}
 use native.Mathlib.Omega.{arith}
 use borrow.Author.Tests.{le-leb, lt-leb, leb-true, ne-eqb}
 use lib.Dec.{leb, eqb}
 use Rattle.wire.specs.Numbers.{limit}
 use Rattle.wire.proofs.Lengths.{split}
-use Rattle.window.specs.Window.{valueOf, windowOf, isSet, noneBelow, clearedBelow}
-use Rattle.window.specs.declared.Window.{Window}
-use Rattle.window.proofs.Sixteen.{Sixteen}
-use Rattle.window.proofs.Laws.{window-kept, made-mark, none-says, none-is}
-use Rattle.window.proofs.Cleared.{cleared-low, cleared-high, cleared-same}
+use Rattle.window.specs.Window.{valueOf, isSet, noneBelow, clearedBelow}
+use Rattle.window.proofs.Laws.{made-mark, none-says, none-is}
+use Rattle.window.proofs.Cleared.{cleared-low, cleared-high}
 use Rattle.seen.specs.declared.Seen.{Seen}
 use Rattle.seen.specs.Received.{floor, floorOf, placeOf, received, floorFits, numbersObey, marksConsistent, seenConsistent, reported}
 use Rattle.ack.proofs.Ranges.{Begun, begun, both}
 
 -- the place from which on marks are reported
-abbrev bottom : Seen → ℕ
+abbrev pub bottom : Seen → ℕ
 bottom s = placeOf (s .end) (floor s)
 
 -- the place of a number up to the end, from how far below the end it lies
@@ -75,12 +73,3 @@ module _ (s : Seen) (e : seenConsistent s ≡ true) (h : 0 < s .end) where
       let n : eqb (s .end) 0 ≡ false = ne-eqb (s .end) 0 (λ z. omega arith) in
       let a : numbersObey s ≡ true = both (numbersObey s) (marksConsistent s) e .0 in
       ap₂ (λ (a b : Bool). a && b) a (ap₂ (λ (b c : Bool). b && (eqb (s .end) 0 || c)) none-reported own-reported ∙ ap (λ (b : Bool). b || true) n)
-
-  -- where the floor is the window's own all marks are reported
-  pub reported-same : Sixteen (s .window .words) → s .confirmed ≤ floorOf (s .end) → reported s ≡ s
-  reported-same w l =
-      let f : floor s ≡ floorOf (s .end) = max-eq-right l in
-      let p : bottom s ≡ 1024 - s .end = omega arith in
-      let z : noneBelow (bottom s) (valueOf (s .window)) ≡ true = rw p (begun s e h .none) in
-      ap {B = Seen} (λ (v : Window). record { window = v; end = s .end; arrived = s .arrived; confirmed = s .confirmed })
-      (ap windowOf (cleared-same (bottom s) (valueOf (s .window)) z) ∙ window-kept (s .window) w)

@@ -10,17 +10,18 @@ ghost use Rattle.frames.specs.Ack.{typeOf, countsOf};
 ghost use Rattle.frames.specs.declared.Tail.the-variants.{Nothing};
 ghost use Rattle.wire.specs.Bytes.{splice};
 ghost use Rattle.seen.specs.Numbers.{small};
-ghost use Rattle.seen.specs.Received.{floor, seenConsistent, reported};
+ghost use Rattle.seen.specs.Received.{seenConsistent, reported};
 ghost use Rattle.ack.specs.Ack.{numberOfRanges, body, rangesKept, marksAnswer, marksBytes, ackAnswer, ackBytes};
+use edges::first_size;
 use frames::Tail;
 use seen::Micros;
 use seen::Seen;
 use seen::numbers;
 use walk::first_room;
-use walk::first_size;
 use walk::put_body;
 use wire::Put;
 
+mod edges;
 mod walk;
 
 // What writing an ACK frame answers.
@@ -107,39 +108,34 @@ fn put_counts(tail: Tail, at: usize, buf: &mut [u8]) -> usize
     }
 }
 
-// Writes the ACK frame of all its marks, as many newest ranges as fit; 9 where not even the first does.
+// Writes the ACK frame of what is reported, as many newest ranges as fit; 9 where not even the first does.
+// The window's words are lent, and their marks below the floor are passed over: a window that goes by value is copied each time.
 fn write_marks(seen: Seen, time: Micros, tail: Tail, buf: &mut [u8]) -> Acked
     requires { ⌜ (seenConsistent seen ≡ true) × (0 < seen .end) × (small (time .0) ≡ true) × (allSmall (countsOf tail) ≡ true) ⌝ }
-    ensures { λ r. ⌜ (r ≡ marksAnswer seen time tail (now (buf .entry))) × (now (buf .exit) ≡ marksBytes seen time tail (now (buf .entry))) ⌝ }
+    ensures { λ r. ⌜ (r ≡ marksAnswer (reported seen) time tail (now (buf .entry))) × (now (buf .exit) ≡ marksBytes (reported seen) time tail (now (buf .entry))) ⌝ }
 {
+    let window = seen.window;
     let delay = numbers::minus_or_zero(time.0, seen.arrived.0) / 8;
-    let first = first_size(seen);
+    let least = numbers::minus_or_zero(window::PLACES, seen.end - seen.floor());
+    let first = first_size(&window.words, least);
     let room = room_before(tail, buf.len());
-    if room < first_room(seen, first, delay) {
+    if room < first_room(seen.end - 1, first, delay) {
         return Acked::refused(9);
     }
-    let end = put_body(seen, tail, first, delay, room, buf);
+    let end = put_body(
+        &window.words,
+        seen.end,
+        least,
+        tail,
+        first,
+        delay,
+        room,
+        buf,
+    );
     let length = put_counts(tail, end, buf);
     Acked {
         result: 0,
         length: length as u64,
-    }
-}
-
-// What is reported: the marks from the floor up.
-fn reported(seen: Seen) -> Seen
-    requires { ⌜ floor seen ≤ seen .end ⌝ }
-    ensures { λ r. ⌜ r ≡ reported seen ⌝ }
-{
-    let end = seen.end;
-    let window = seen.window;
-    let next = window.cleared_below(numbers::minus_or_zero(window::PLACES, end - seen.floor()));
-    let arrived = seen.arrived;
-    Seen {
-        window: next,
-        end,
-        arrived,
-        confirmed: seen.confirmed,
     }
 }
 
@@ -159,9 +155,5 @@ pub fn write_ack(seen: Seen, time: Micros, tail: Tail, buf: &mut [u8]) -> Acked
     if seen.end == 0 {
         return Acked::refused(8);
     }
-    // Where the window's own floor is the larger, every mark is reported, and the window is not copied.
-    if seen.confirmed <= numbers::minus_or_zero(seen.end, window::PLACES) {
-        return write_marks(seen, time, tail, buf);
-    }
-    write_marks(reported(seen), time, tail, buf)
+    write_marks(seen, time, tail, buf)
 }

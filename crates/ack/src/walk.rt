@@ -4,101 +4,19 @@ ghost use mathlib.Core.Bool.{true, false};
 ghost use mathlib.Core.Logic.{_⊎_};
 ghost use mathlib.Core.List.{[], _∷_};
 ghost use Prim.Native.Nat.{_+_, _-_, _*_, _/_, _≤_, _<_};
-ghost use lib.ListN.{length, take, getD};
+ghost use lib.ListN.{length, take};
 ghost use Rattle.wire.specs.Numbers.{limit, widthOf, encode, encodeAll};
 ghost use Rattle.wire.specs.Bytes.{splice};
 ghost use Rattle.frames.specs.Ack.{typeOf, gapsFrom};
 ghost use Rattle.frames.specs.declared.Tail.the-variants.{Nothing};
-ghost use Rattle.window.specs.Window.{places, valueOf, lentValue, runBelow};
+ghost use Rattle.window.specs.Window.{places, valueOf, runBelow};
 ghost use Rattle.seen.specs.Received.{seenConsistent};
 ghost use Rattle.ack.specs.Ack.{numberAt, rangesBelow, frame, body, rangesKept};
+ghost use Rattle.ack.specs.Walk.{marksFrom};
+use crate::edges::others_in;
+use crate::edges::range_at;
 use crate::type_of;
 use frames::Tail;
-use seen::Seen;
-use seen::numbers;
-
-// A range by its size, and by how many numbers are missing between it and the place above; of size 0 where there is none.
-pub(crate) struct Range {
-    pub missing: u64,
-    pub size: u64,
-}
-
-// The newest range below a place of a window's words.
-pub(crate) fn range_below(words: &[u64; 16], place: u64) -> Range
-    ensures { λ r. ⌜ (r .missing ≡ runBelow false place (lentValue (now (words .entry)))) × (r .size ≡ runBelow true (place - runBelow false place (lentValue (now (words .entry)))) (lentValue (now (words .entry)))) ⌝ }
-{
-    let missing = window::run_below(words, place, false);
-    let size = window::run_below(words, place - missing, true);
-    Range { missing, size }
-}
-
-// A word of a window's words.
-fn word_at(words: &[u64; 16], i: usize) -> u64
-    requires { ⌜ i < 16 ⌝ }
-    ensures { λ r. ⌜ r ≡ getD (now (words .entry)) i 0 ⌝ }
-{
-    words[i]
-}
-
-// How many numbers the newest range has: it ends with L, whose place is the last. Whole words are passed over.
-pub(crate) fn first_size(seen: Seen) -> u64
-    ensures { λ r. ⌜ r ≡ runBelow true places (valueOf (seen .window)) ⌝ }
-{
-    let mut left = window::PLACES;
-    while 0 < left {
-        let i = (left / 64 - 1) as usize;
-        let other = !word_at(&seen.window.words, i);
-        if other != 0 {
-            return window::PLACES - left + u64::leading_zeros(other) as u64;
-        }
-        left -= 64;
-    }
-    window::PLACES
-}
-
-// The same from the word that holds the place below: most ranges lie in one word.
-fn range_in(words: &[u64; 16], word: u64, place: u64) -> Range
-    requires { ⌜ (0 < place) × (place ≤ places) × (word ≡ getD (now words) ((place - 1) / 64) 0) ⌝ }
-    ensures { λ r. ⌜ (r .missing ≡ runBelow false place (lentValue (now (words .entry)))) × (r .size ≡ runBelow true (place - runBelow false place (lentValue (now (words .entry)))) (lentValue (now (words .entry)))) ⌝ }
-{
-    let k = (place - 1) % 64;
-    let rest = word << (63 - k);
-    if rest == 0 {
-        return range_below(words, place);
-    }
-    let missing = u64::leading_zeros(rest) as u64;
-    let other = !word << (63 - (k - missing));
-    if other == 0 {
-        let size = window::run_below(words, place - missing, true);
-        return Range { missing, size };
-    }
-    let size = u64::leading_zeros(other) as u64;
-    Range { missing, size }
-}
-
-// The same where what is missing may go on into the word below that one.
-fn range_at(words: &[u64; 16], word: u64, place: u64) -> Range
-    requires { ⌜ (0 < place) × (place ≤ places) × (word ≡ getD (now words) ((place - 1) / 64) 0) ⌝ }
-    ensures { λ r. ⌜ (r .missing ≡ runBelow false place (lentValue (now (words .entry)))) × (r .size ≡ runBelow true (place - runBelow false place (lentValue (now (words .entry)))) (lentValue (now (words .entry)))) ⌝ }
-{
-    let k = (place - 1) % 64;
-    if word << (63 - k) != 0 {
-        return range_in(words, word, place);
-    }
-    let next = place - (k + 1);
-    if next == 0 {
-        return Range {
-            missing: place,
-            size: 0,
-        };
-    }
-    let other = word_at(words, ((next - 1) / 64) as usize);
-    let range = range_in(words, other, next);
-    Range {
-        missing: k + 1 + range.missing,
-        size: range.size,
-    }
-}
 
 // How many bytes a gap or a length takes: it is below 1,024, the places of a window.
 fn short_width(v: u64) -> usize
@@ -131,8 +49,11 @@ pub(crate) struct Walked {
 }
 
 // Stores the ranges below place `low`, where the first one ends, from place `from` on while they fit the room; `most` is the largest range count that its field holds.
+// No mark below place `least` counts.
 pub(crate) fn put_ranges(
-    seen: Seen,
+    words: &[u64; 16],
+    end: u64,
+    least: u64,
     low: u64,
     delay: u64,
     most: u64,
@@ -140,59 +61,63 @@ pub(crate) fn put_ranges(
     room: usize,
     buf: &mut [u8],
 ) -> Walked
-    requires { ⌜ (seenConsistent seen ≡ true) × (0 < seen .end) × (delay ≤ limit) × (room ≤ length (now buf)) × (low ≡ places - runBelow true places (valueOf (seen .window)))
-        × (from + 1 ≡ length (frame seen Nothing delay 1) + widthOf most) × (from ≤ room)
-        × ((most ≡ 63) ⊎ ((most ≡ 16383) × (64 < rangesKept seen Nothing delay room))) ⌝ }
-    ensures { λ r. ⌜ (r .end ≡ from + length (encodeAll (gapsFrom (numberAt (seen .end) low) (take (2 * r .count) (rangesBelow places seen low)))))
-        × (now (buf .exit) ≡ splice (now (buf .entry)) from (encodeAll (gapsFrom (numberAt (seen .end) low) (take (2 * r .count) (rangesBelow places seen low)))))
-        × (r .end ≤ room) × (r .count < rangesKept seen Nothing delay room) × (r .count ≤ most)
-        × (r .over ≡ false → r .count + 1 ≡ rangesKept seen Nothing delay room)
-        × (r .over ≡ true → (most ≡ 63) × (64 < rangesKept seen Nothing delay room) × (r .end ≤ length (frame seen Nothing delay (rangesKept seen Nothing delay room)))) ⌝ }
+    requires { ⌜ (seenConsistent (marksFrom (now words) end least) ≡ true) × (0 < end) × (delay ≤ limit) × (room ≤ length (now buf)) × (low ≡ places - runBelow true places (valueOf (marksFrom (now words) end least .window)))
+        × (from + 1 ≡ length (frame (marksFrom (now words) end least) Nothing delay 1) + widthOf most) × (from ≤ room)
+        × ((most ≡ 63) ⊎ ((most ≡ 16383) × (64 < rangesKept (marksFrom (now words) end least) Nothing delay room))) ⌝ }
+    ensures { λ r. ⌜ (r .end ≡ from + length (encodeAll (gapsFrom (numberAt end low) (take (2 * r .count) (rangesBelow places (marksFrom (now (words .entry)) end least) low)))))
+        × (now (buf .exit) ≡ splice (now (buf .entry)) from (encodeAll (gapsFrom (numberAt end low) (take (2 * r .count) (rangesBelow places (marksFrom (now (words .entry)) end least) low)))))
+        × (r .end ≤ room) × (r .count < rangesKept (marksFrom (now (words .entry)) end least) Nothing delay room) × (r .count ≤ most)
+        × (r .over ≡ false → r .count + 1 ≡ rangesKept (marksFrom (now (words .entry)) end least) Nothing delay room)
+        × (r .over ≡ true → (most ≡ 63) × (64 < rangesKept (marksFrom (now (words .entry)) end least) Nothing delay room) × (r .end ≤ length (frame (marksFrom (now (words .entry)) end least) Nothing delay (rangesKept (marksFrom (now (words .entry)) end least) Nothing delay room)))) ⌝ }
 {
-    // No place below that of number 0 is marked.
-    let none_below = numbers::minus_or_zero(window::PLACES, seen.end);
-    let mut end = from;
+    let mut at = from;
     let mut place = low;
     let mut count: u64 = 0;
-    // The word that holds the place below.
-    let mut index: usize = 15;
-    let mut word = word_at(&seen.window.words, index);
-    while none_below < place {
-        let below = ((place - 1) / 64) as usize;
-        if below != index {
-            index = below;
-            word = word_at(&seen.window.words, index);
-        }
-        let range = range_at(&seen.window.words, word, place);
+    // The word that holds the place, and its marks below it.
+    let mut index = (low / 64) as usize;
+    let word = others_in(words, index, false);
+    let mut left = word % (1 << (low % 64));
+    while least < place {
+        let range = range_at(words, least, place, index, left);
         if range.size == 0 {
             break;
         }
         // Gap and length, each one less than what it counts.
         let gap = range.missing - 1;
         let more = range.size - 1;
-        let after = end + short_width(gap) + short_width(more);
+        let after = at + short_width(gap) + short_width(more);
         if room < after {
             break;
         }
         if count == most {
             let over = after < room;
-            return Walked { count, end, over };
+            return Walked {
+                count,
+                end: at,
+                over,
+            };
         }
-        let next = put_short(buf, end, gap);
-        end = put_short(buf, next, more);
+        let next = put_short(buf, at, gap);
+        at = put_short(buf, next, more);
         place = place - range.missing - range.size;
+        index = range.index;
+        left = range.left;
         count += 1;
     }
     let over = false;
-    Walked { count, end, over }
+    Walked {
+        count,
+        end: at,
+        over,
+    }
 }
 
-// How much room a frame with the first range alone takes, without counts.
-pub(crate) fn first_room(seen: Seen, first: u64, delay: u64) -> usize
-    requires { ⌜ (seenConsistent seen ≡ true) × (0 < seen .end) × (delay ≤ limit) × (first ≡ runBelow true places (valueOf (seen .window))) ⌝ }
-    ensures { λ r. ⌜ r ≡ length (frame seen Nothing delay 1) ⌝ }
+// How much room a frame with the first range alone takes, without counts: the type and the range count take a byte each.
+pub(crate) fn first_room(largest: u64, first: u64, delay: u64) -> usize
+    requires { ⌜ 0 < first ⌝ }
+    ensures { λ r. ⌜ r ≡ 2 + widthOf largest + widthOf delay + widthOf (first - 1) ⌝ }
 {
-    2 + wire::width(seen.end - 1) + wire::width(delay) + wire::width(first - 1)
+    2 + wire::width(largest) + wire::width(delay) + wire::width(first - 1)
 }
 
 // Writes type, largest and delay, and answers the place after them.
@@ -209,7 +134,9 @@ fn put_head(kind: u64, largest: u64, delay: u64, buf: &mut [u8]) -> usize
 
 // Writes the frame up to its counts, the range count in a field that holds up to `most` (RFC 9000 19.3).
 fn put_frame(
-    seen: Seen,
+    words: &[u64; 16],
+    end: u64,
+    least: u64,
     tail: Tail,
     first: u64,
     delay: u64,
@@ -217,17 +144,27 @@ fn put_frame(
     room: usize,
     buf: &mut [u8],
 ) -> Walked
-    requires { ⌜ (seenConsistent seen ≡ true) × (0 < seen .end) × (delay ≤ limit) × (room ≤ length (now buf)) × (first ≡ runBelow true places (valueOf (seen .window)))
-        × (length (frame seen Nothing delay 1) ≤ room)
-        × ((most ≡ 63) ⊎ ((most ≡ 16383) × (64 < rangesKept seen Nothing delay room))) ⌝ }
-    ensures { λ r. ⌜ (r .over ≡ false → (r .end ≡ length (body seen (typeOf tail) delay (rangesKept seen Nothing delay room)))
-        × (now (buf .exit) ≡ splice (now (buf .entry)) 0 (body seen (typeOf tail) delay (rangesKept seen Nothing delay room))))
-        × (r .over ≡ true → (most ≡ 63) × (64 < rangesKept seen Nothing delay room)
-        × (splice (now (buf .exit)) 0 (body seen (typeOf tail) delay (rangesKept seen Nothing delay room)) ≡ splice (now (buf .entry)) 0 (body seen (typeOf tail) delay (rangesKept seen Nothing delay room)))) ⌝ }
+    requires { ⌜ (seenConsistent (marksFrom (now words) end least) ≡ true) × (0 < end) × (delay ≤ limit) × (room ≤ length (now buf)) × (first ≡ runBelow true places (valueOf (marksFrom (now words) end least .window)))
+        × (length (frame (marksFrom (now words) end least) Nothing delay 1) ≤ room)
+        × ((most ≡ 63) ⊎ ((most ≡ 16383) × (64 < rangesKept (marksFrom (now words) end least) Nothing delay room))) ⌝ }
+    ensures { λ r. ⌜ (r .over ≡ false → (r .end ≡ length (body (marksFrom (now (words .entry)) end least) (typeOf tail) delay (rangesKept (marksFrom (now (words .entry)) end least) Nothing delay room)))
+        × (now (buf .exit) ≡ splice (now (buf .entry)) 0 (body (marksFrom (now (words .entry)) end least) (typeOf tail) delay (rangesKept (marksFrom (now (words .entry)) end least) Nothing delay room))))
+        × (r .over ≡ true → (most ≡ 63) × (64 < rangesKept (marksFrom (now (words .entry)) end least) Nothing delay room)
+        × (splice (now (buf .exit)) 0 (body (marksFrom (now (words .entry)) end least) (typeOf tail) delay (rangesKept (marksFrom (now (words .entry)) end least) Nothing delay room)) ≡ splice (now (buf .entry)) 0 (body (marksFrom (now (words .entry)) end least) (typeOf tail) delay (rangesKept (marksFrom (now (words .entry)) end least) Nothing delay room)))) ⌝ }
 {
-    let count_at = put_head(type_of(tail), seen.end - 1, delay, buf);
+    let count_at = put_head(type_of(tail), end - 1, delay, buf);
     let from = put_short(buf, count_at + wire::width(most), first - 1);
-    let walked = put_ranges(seen, window::PLACES - first, delay, most, from, room, buf);
+    let walked = put_ranges(
+        words,
+        end,
+        least,
+        window::PLACES - first,
+        delay,
+        most,
+        from,
+        room,
+        buf,
+    );
     if walked.over {
         return walked;
     }
@@ -238,21 +175,23 @@ fn put_frame(
 // Writes the frame up to its counts with as many newest ranges as fit the room, and answers the place after them.
 // Up to 64 ranges have a range count of one byte. Where more fit, all is written once more with one of two.
 pub(crate) fn put_body(
-    seen: Seen,
+    words: &[u64; 16],
+    end: u64,
+    least: u64,
     tail: Tail,
     first: u64,
     delay: u64,
     room: usize,
     buf: &mut [u8],
 ) -> usize
-    requires { ⌜ (seenConsistent seen ≡ true) × (0 < seen .end) × (delay ≤ limit) × (room ≤ length (now buf)) × (first ≡ runBelow true places (valueOf (seen .window)))
-        × (length (frame seen Nothing delay 1) ≤ room) ⌝ }
-    ensures { λ r. ⌜ (r ≡ length (body seen (typeOf tail) delay (rangesKept seen Nothing delay room)))
-        × (now (buf .exit) ≡ splice (now (buf .entry)) 0 (body seen (typeOf tail) delay (rangesKept seen Nothing delay room))) ⌝ }
+    requires { ⌜ (seenConsistent (marksFrom (now words) end least) ≡ true) × (0 < end) × (delay ≤ limit) × (room ≤ length (now buf)) × (first ≡ runBelow true places (valueOf (marksFrom (now words) end least .window)))
+        × (length (frame (marksFrom (now words) end least) Nothing delay 1) ≤ room) ⌝ }
+    ensures { λ r. ⌜ (r ≡ length (body (marksFrom (now (words .entry)) end least) (typeOf tail) delay (rangesKept (marksFrom (now (words .entry)) end least) Nothing delay room)))
+        × (now (buf .exit) ≡ splice (now (buf .entry)) 0 (body (marksFrom (now (words .entry)) end least) (typeOf tail) delay (rangesKept (marksFrom (now (words .entry)) end least) Nothing delay room))) ⌝ }
 {
-    let short = put_frame(seen, tail, first, delay, 63, room, buf);
+    let short = put_frame(words, end, least, tail, first, delay, 63, room, buf);
     if short.over {
-        let wide = put_frame(seen, tail, first, delay, 16383, room, buf);
+        let wide = put_frame(words, end, least, tail, first, delay, 16383, room, buf);
         return wide.end;
     }
     short.end

@@ -1,27 +1,14 @@
 -- `ack::write_ack` meets its contract: the refusals in the definition's order, and then the frame of what is reported.
 -- Assumes nothing.
-use Prim.Native.Nat.{ℕ}
-use mathlib.Core.Path.{_≡_, sym, _∙_, subst}
+use mathlib.Core.Path.{_≡_, _∙_}
 use mathlib.Core.Bool.{true}
-use mathlib.Core.List.{List}
-use native.Mathlib.Omega.{arith}
 use borrow.Author.Needs.{needs}
-use mir.Val.{Fits}
-use mir.Syntax.{w64}
-use lib.ListN.{getD}
 use Rattle.wire.specs.Numbers.{allSmall}
-use Rattle.window.proofs.Sixteen.{Sixteen}
-use Rattle.frames.specs.declared.Tail.{Tail}
 use Rattle.frames.specs.Ack.{countsOf}
-use Rattle.seen.specs.declared.Micros.{Micros}
-use Rattle.seen.specs.declared.Seen.{Seen}
-use Rattle.ack.specs.declared.Acked.{Acked}
-use Rattle.ack.specs.Ack.{marksAnswer, marksBytes}
 use Rattle.seen.specs.Numbers.{small}
 use Rattle.seen.specs.Received.{seenConsistent}
 use Rattle.seen.proofs.Tests.{failed, held}
 use Rattle.ack.proofs.Written.{some-end, gives-one, gives-five, gives-five-too, gives-eight, refused, passed-on}
-use Rattle.ack.proofs.Reporting.{floor-below, consistent-reported, reported-same}
 use Rattle.ack.proofs.write_ack.Statement.{statement}
 use Rattle.ack.proofs.write_ack.Tie as tie
 
@@ -37,14 +24,6 @@ timely c = held (c .before .is-small .ensures) (c .if2 .left)
 
 counted : (c : tie.Else3) → allSmall (countsOf (entry (c .before .before) .args .tail)) ≡ true
 counted c = held (c .before .counts-obey .ensures) (c .if3 .left)
-
-own : (c : tie.Start) → Sixteen (c .args .seen .window .words)
-own c = record { long = search needs; words = λ i. let f : Fits w64 (getD (c .args .seen .window .words) i 0) = search needs in f .fits }
-
--- the frame of all marks of what is reported
-as-reported : {s t : Seen} (time : Micros) (tail : Tail) (xs : List ℕ) {a : Acked} {ys : List ℕ} → t ≡ s → (a ≡ marksAnswer s time tail xs) × (ys ≡ marksBytes s time tail xs)
-    → (a ≡ marksAnswer t time tail xs) × (ys ≡ marksBytes t time tail xs)
-as-reported time tail xs {a} {ys} e w = subst (λ (s : Seen). (a ≡ marksAnswer s time tail xs) × (ys ≡ marksBytes s time tail xs)) (sym e) w
 
 consistent-requires : tie.Need-consistent-requires
 consistent-requires c κs = search needs
@@ -99,12 +78,9 @@ returns-4 c =
     let w = refused (a .seen) (a .time) (a .tail) (a .buf .now) 7 (gives-eight _ _ _ _ (whole k) (timely k) (counted q) (i .if4 .taken)) in
     (c .refused4 .ensures ∙ w .0, w .1)
 
-minus-or-zero-requires : tie.Need-minus-or-zero-requires
-minus-or-zero-requires c κs = search needs
-
 write-marks-requires : tie.Need-write-marks-requires
 write-marks-requires c κs =
-    let i = c .before .before .before .before in
+    let i = c .before in
     let q = i .before .before in
     let k = q .before .before in
     (whole k, some-end (i .if4 .left), timely k, counted q)
@@ -114,38 +90,11 @@ same-length c = search needs
 
 returns-5 : tie.Need-returns-5
 returns-5 c =
-    let i = c .before .before .before .before .before .before .before in
+    let i = c .before .before .before .before in
     let q = i .before .before in
     let k = q .before .before in
     let a = entry k .args in
-    passed-on (a .seen) (a .time) (a .tail) (a .buf .now) (whole k) (timely k) (counted q) (i .if4 .left)
-    (as-reported (a .time) (a .tail) (a .buf .now) (reported-same (a .seen) (whole k) (some-end (i .if4 .left)) (own (entry k)) (omega (arith, c .before .before .before .before .if5 .taken, c .before .before .before .before .before .before .minus-or-zero .ensures))) (c .before .before .write-marks .ensures))
-
-reported-requires : tie.Need-reported-requires
-reported-requires c κs =
-    let i = c .before .before .before in
-    let k = i .before .before .before .before in
-    omega (arith, floor-below (entry k .args .seen) (whole k) (some-end (i .if4 .left)))
-
-write-marks-requires-2 : tie.Need-write-marks-requires-2
-write-marks-requires-2 c κs =
-    let i = c .before .before .before .before .before in
-    let q = i .before .before in
-    let k = q .before .before in
-    let h = some-end (i .if4 .left) in
-    rw (c .before .reported .ensures) (consistent-reported (entry k .args .seen) (whole k) h, h, timely k, counted q)
-
-same-length-2 : tie.Need-same-length-2
-same-length-2 c = search needs
-
-returns-6 : tie.Need-returns-6
-returns-6 c =
-    let i = c .before .before .before .before .before .before .before .before in
-    let q = i .before .before in
-    let k = q .before .before in
-    let a = entry k .args in
-    passed-on (a .seen) (a .time) (a .tail) (a .buf .now) (whole k) (timely k) (counted q) (i .if4 .left)
-    (as-reported (a .time) (a .tail) (a .buf .now) (sym (c .before .before .before .before .reported .ensures)) (c .before .before .write-marks2 .ensures))
+    passed-on (a .seen) (a .time) (a .tail) (a .buf .now) (whole k) (timely k) (counted q) (i .if4 .left) (c .before .before .write-marks .ensures)
 
 pub write-ack-spec : {M : Type 1} → statement M
 write-ack-spec =
@@ -162,11 +111,6 @@ write-ack-spec =
     returns-3
     refused-requires-4
     returns-4
-    minus-or-zero-requires
     write-marks-requires
     same-length
-    returns-5
-    reported-requires
-    write-marks-requires-2
-    same-length-2
-    returns-6)
+    returns-5)

@@ -17,7 +17,7 @@ put-frame-requires-2 c κs =
     let i = c .before in
     let q = i .before .before .before in
     let p = q .before .before .before .pre in
-    (p .0, p .1, p .2, omega (arith, p .3, q .put-frame .kept .1 .1 .1 .1 .1 .1 .0), p .4, p .5, inr (refl, q .put-frame .ensures .1 (i .if1 .taken) .1))
+    (p .0, p .1, p .2, omega (arith, p .3, q .put-frame .kept .1 .1 .1 .1 .1 .1 .1 .1 .0), p .4, p .5, inr (refl, q .put-frame .ensures .1 (i .if1 .taken) .1))
 
 same-length : tie.Need-same-length
 same-length c = search needs

@@ -1,37 +1,41 @@
 -- `ack::walk::put_ranges` meets its contract. The loop's invariant: the ranges stored so far fit, and with those still to come they give the whole.
 -- Assumes nothing.
-use Prim.Native.Nat.{ℕ, _+_, _-_, _/_, _≤_, _<_}
-use mathlib.Core.Path.{_≡_, sym, ap, _∙_, subst}
-use mathlib.Core.Bool.{Bool}
+use Prim.Native.Nat.{ℕ, _+_, _-_, _*_, _/_, _%_, _^_, _≤_, _<_}
+use mathlib.Core.Path.{_≡_, refl, sym, ap, _∙_, subst}
+use mathlib.Core.Bool.{Bool, false}
 use mathlib.Core.List.{List}
 use mathlib.Core.Logic.{⊎-elim}
 use native.Mathlib.Omega.{arith}
 use borrow.Author.Needs.{needs}
-use mir.Val.{Fits}
-use mir.Syntax.{w64}
-use lib.ListN.{getD}
+use lib.Pow.{pow-pos}
 use Rattle.wire.specs.Numbers.{limit, widthOf}
-use Rattle.window.proofs.Sixteen.{Sixteen}
-use Rattle.ack.proofs.Ranges.{Begun, begun, missing, size, low, ranged, size-none, nothing-below}
-use Rattle.ack.proofs.Fitting.{narrow, step-sizes}
+use Rattle.window.specs.Window.{lentValue}
+use Rattle.window.proofs.Sixteen.{one-at}
+use Rattle.seen.specs.declared.Seen.{Seen}
+use Rattle.ack.specs.Walk.{marksFrom, Others}
+use Rattle.ack.proofs.Ranges.{Begun, begun, missing, size, low, first-is, size-none}
+use Rattle.ack.proofs.Lent.{ranged, nothing-below}
+use Rattle.ack.proofs.Ends.{cut-at}
+use Rattle.ack.proofs.Fitting.{narrow, first-size, step-sizes}
 use Rattle.ack.proofs.Walking.{Answer, Walking, first-ends, walk-begins, walk-all, walk-full, walk-over, walk-next}
 use Rattle.ack.proofs.walk.put_ranges.Statement.{statement}
 use Rattle.ack.proofs.walk.put_ranges.Tie as tie
 
 abbrev Inv-loop : tie.InvT-loop
-Inv-loop low delay most from room buf₀ seen none-below end₀ place₀ count₀ index₀ word₀ buf end place count index word =
-    Walking seen delay room most from buf₀ buf end place count × (word ≡ getD (seen .window .words) index 0)
+Inv-loop words end least low delay most from room buf₀ at₀ place₀ count₀ index₀ word left₀ buf at place count index left =
+    Walking (marksFrom words end least) delay room most from buf₀ buf at place count × (least < place → Others false (lentValue words) place index left)
 
 abbrev μ-loop : tie.MeasureT-loop
-μ-loop low delay most from room buf₀ seen none-below end₀ place₀ count₀ index₀ word₀ buf end place count index word = place
+μ-loop words end least low delay most from room buf₀ at₀ place₀ count₀ index₀ word left₀ buf at place count index left = place
 
-started : (c : tie.Start Inv-loop μ-loop) → Begun (c .args .t1)
-started c = begun (c .args .t1) (c .pre .0) (c .pre .1)
+-- what is reported
+abbrev marks : tie.Start Inv-loop μ-loop → Seen
+marks c = marksFrom (c .args .words .now) (c .args .end) (c .args .least)
 
-own : (c : tie.Start Inv-loop μ-loop) → Sixteen (c .args .t1 .window .words)
-own c = record { long = search needs; words = λ i. let f : Fits w64 (getD (c .args .t1 .window .words) i 0) = search needs in f .fits }
+started : (c : tie.Start Inv-loop μ-loop) → Begun (marks c)
+started c = begun (marks c) (c .pre .0) (c .pre .1)
 
-starts : (c : tie.Start Inv-loop μ-loop) → c .args .low ≡ low (c .args .t1) 1024
+starts : (c : tie.Start Inv-loop μ-loop) → c .args .low ≡ low (marks c) 1024
 starts c = first-ends (started c) (c .pre .4)
 
 holds : (c : tie.Start Inv-loop μ-loop) → c .args .most ≤ limit
@@ -39,24 +43,24 @@ holds c = ⊎-elim (λ q. omega (arith, q)) (λ q. omega (arith, q .0)) (c .pre 
 
 -- the answer, below the place that the code was given
 answers : (c : tie.Start Inv-loop μ-loop) {ys : List ℕ} {end count : ℕ} {over : Bool}
-    → Answer (c .args .t1) (c .args .delay) (c .args .room) (c .args .most) (c .args .from) (low (c .args .t1) 1024) (c .args .buf .now) ys end count over
-    → Answer (c .args .t1) (c .args .delay) (c .args .room) (c .args .most) (c .args .from) (c .args .low) (c .args .buf .now) ys end count over
+    → Answer (marks c) (c .args .delay) (c .args .room) (c .args .most) (c .args .from) (low (marks c) 1024) (c .args .buf .now) ys end count over
+    → Answer (marks c) (c .args .delay) (c .args .room) (c .args .most) (c .args .from) (c .args .low) (c .args .buf .now) ys end count over
 answers c {ys} {end} {count} {over} a =
-    subst (λ (p : ℕ). Answer (c .args .t1) (c .args .delay) (c .args .room) (c .args .most) (c .args .from) p (c .args .buf .now) ys end count over) (sym (starts c)) a
+    subst (λ (p : ℕ). Answer (marks c) (c .args .delay) (c .args .room) (c .args .most) (c .args .from) p (c .args .buf .now) ys end count over) (sym (starts c)) a
 
 -- the entry, from the loop's head, and the loop's head, from the range that a turn found
 abbrev origin : tie.At-loop Inv-loop μ-loop → tie.Start Inv-loop μ-loop
-origin c = c .before .before .before .before .before .before
+origin c = c .before .before .before
 
 abbrev head : tie.After-range-at Inv-loop μ-loop → tie.At-loop Inv-loop μ-loop
-head c = c .before .before .before .before .before
+head c = c .before .before
 
 another : (c : tie.After-range-at Inv-loop μ-loop)
-    → (c .range-at .result .missing ≡ missing (origin (head c) .args .t1) (head c .loop .place))
-    × (c .range-at .result .size ≡ size (origin (head c) .args .t1) (head c .loop .place))
-another c = let o = origin (head c) in ranged (o .args .t1) (own o) (head c .loop .place) _ _ (c .range-at .ensures)
+    → (c .range-at .result .missing ≡ missing (marks (origin (head c))) (head c .loop .place))
+    × (c .range-at .result .size ≡ size (marks (origin (head c))) (head c .loop .place))
+another c = let a = origin (head c) .args in ranged (a .words .now) (a .end) (a .least) (head c .loop .place) _ _ (c .range-at .ensures .0, c .range-at .ensures .1)
 
-sizes : (c : tie.Else2 Inv-loop μ-loop)
+sizes : (c : tie.Else1 Inv-loop μ-loop)
     → (0 < c .before .before .range-at .result .missing) × (0 < c .before .before .range-at .result .size)
     × (c .before .before .range-at .result .missing + c .before .before .range-at .result .size ≤ head (c .before .before) .loop .place)
     × (head (c .before .before) .loop .place < 1024)
@@ -64,56 +68,48 @@ sizes c =
     let r = c .before .before in
     let o = origin (head r) in
     let w = head r .loop .inv .0 in
-    let x = step-sizes (started o) (o .pre .2) (w .counted) (another r .0) (another r .1) (c .if2 .left) in
+    let x = step-sizes (started o) (o .pre .2) (w .counted) (another r .0) (another r .1) (c .if1 .left) in
     (x .0, x .1, x .2, w .counted .at .below)
 
 -- the range that was found, from the test of the room
-abbrev found : tie.After-short-width2 Inv-loop μ-loop → tie.Else2 Inv-loop μ-loop
+abbrev found : tie.After-short-width2 Inv-loop μ-loop → tie.Else1 Inv-loop μ-loop
 found c = c .before .before .before .before
 
-fits : (c : tie.Else3 Inv-loop μ-loop)
-    → head (found (c .before) .before .before) .loop .end + widthOf (found (c .before) .before .before .range-at .result .missing - 1) + widthOf (found (c .before) .before .before .range-at .result .size - 1)
+fits : (c : tie.Else2 Inv-loop μ-loop)
+    → head (found (c .before) .before .before) .loop .at + widthOf (found (c .before) .before .before .range-at .result .missing - 1) + widthOf (found (c .before) .before .before .range-at .result .size - 1)
     ≤ origin (head (found (c .before) .before .before)) .args .room
-fits c = omega (arith, c .before .before .short-width .ensures, c .before .short-width2 .ensures, c .if3 .left)
+fits c = omega (arith, c .before .before .short-width .ensures, c .before .short-width2 .ensures, c .if2 .left)
 
 -- the same, from the second put
-abbrev turn : tie.After-put-short2 Inv-loop μ-loop → tie.Else2 Inv-loop μ-loop
+abbrev turn : tie.After-put-short2 Inv-loop μ-loop → tie.Else1 Inv-loop μ-loop
 turn c = found (c .before .before .before .before .before .before .before .before)
 
-minus-or-zero-requires : tie.Need-minus-or-zero-requires Inv-loop μ-loop
-minus-or-zero-requires c κs = search needs
+others-in-requires : tie.Need-others-in-requires Inv-loop μ-loop
+others-in-requires c κs = let o = c .before in omega (arith, o .pre .4, first-size (started o), first-is (started o) _ refl)
 
-word-at-requires : tie.Need-word-at-requires Inv-loop μ-loop
-word-at-requires c κs = search needs
+shl-left : tie.Need-shl-left Inv-loop μ-loop
+shl-left c = omega arith
+
+-- the marks of the word below the place
+abbrev mask : ℕ → ℕ
+mask low = (1 * 2 ^ (low % 64)) % 2 ^ 64
+
+masked : (low : ℕ) → mask low ≡ 2 ^ (low - 64 * (low / 64))
+masked low = let e : low % 64 ≡ low - 64 * (low / 64) = omega arith in one-at (low % 64) (omega arith) ∙ ap (λ (n : ℕ). 2 ^ n) e
+
+rem-left : tie.Need-rem-left Inv-loop μ-loop
+rem-left c = let a = c .before .before .args in rw (masked (a .low)) (pow-pos (a .low - 64 * (a .low / 64)))
 
 loop-holds : tie.Need-loop-holds Inv-loop μ-loop
 loop-holds c =
-    let o = c .before .before .before .before .before in
-    (rw (starts o) (walk-begins (started o) (o .pre .2) (o .args .buf .now) (o .pre .5) (o .pre .6) (holds o)), c .word-at .ensures)
-
-sub-below : tie.Need-sub-below Inv-loop μ-loop
-sub-below c = omega arith
-
-word-at-requires-2 : tie.Need-word-at-requires-2 Inv-loop μ-loop
-word-at-requires-2 c κs = let l = c .before .before .before .before in omega (arith, l .loop .inv .0 .counted .at .below)
-
--- the word at hand holds the place below
-at-hand : (c : tie.Joined1 Inv-loop μ-loop)
-    → (c .if1 .word ≡ getD (origin (c .before .before) .args .t1 .window .words) ((c .before .before .loop .place - 1) / 64) 0)
-    × (c .if1 .index ≡ (c .before .before .loop .place - 1) / 64)
-at-hand c =
-    let l = c .before .before in
-    let ws : List ℕ = origin l .args .t1 .window .words in
-    ⊎-elim
-    (λ w. (w .5 ∙ w .3 .ensures, w .4))
-    (λ w. (w .2 ∙ l .loop .inv .1 ∙ ap (λ (i : ℕ). getD ws i 0) (sym (w .0 .left)), w .1 ∙ sym (w .0 .left)))
-    (c .if1 .came)
+    let o = c .before .before in
+    let a = o .args in (
+      rw (starts o) (walk-begins (started o) (o .pre .2) (a .buf .now) (o .pre .5) (o .pre .6) (holds o)),
+      λ l. rw (masked (a .low)) (cut-at (c .others-in .ensures) (omega arith) (omega arith)),
+    )
 
 range-at-requires : tie.Need-range-at-requires Inv-loop μ-loop
-range-at-requires c κs =
-    let j = c .before .before in
-    let l = j .before .before in
-    (omega (arith, j .before .loop-test .taken), omega (arith, l .loop .inv .0 .counted .at .below), at-hand j .0)
+range-at-requires c κs = (c .loop-test .taken, c .before .loop .inv .1 (c .loop-test .taken))
 
 sub-gap : tie.Need-sub-gap Inv-loop μ-loop
 sub-gap c = omega (arith, sizes (c .before))
@@ -127,7 +123,7 @@ short-width-requires c κs = omega (arith, sizes (c .before .before))
 add-after : tie.Need-add-after Inv-loop μ-loop
 add-after c =
     let l = head (c .before .before .before .before .before) in
-    omega (arith, narrow _ (c .short-width .ensures), l .loop .inv .0 .within, origin l .pre .3, origin l .good .1 .1 .1 .1 .1 .1 .0 .1)
+    omega (arith, narrow _ (c .short-width .ensures), l .loop .inv .0 .within, origin l .pre .3, origin l .good .1 .1 .1 .1 .1 .1 .1 .1 .0 .1)
 
 short-width-requires-2 : tie.Need-short-width-requires-2 Inv-loop μ-loop
 short-width-requires-2 c κs = omega (arith, sizes (c .before .before .before))
@@ -135,7 +131,7 @@ short-width-requires-2 c κs = omega (arith, sizes (c .before .before .before))
 add-after-2 : tie.Need-add-after-2 Inv-loop μ-loop
 add-after-2 c =
     let l = head (found c .before .before) in
-    omega (arith, narrow _ (c .before .short-width .ensures), narrow _ (c .short-width2 .ensures), l .loop .inv .0 .within, origin l .pre .3, origin l .good .1 .1 .1 .1 .1 .1 .0 .1)
+    omega (arith, narrow _ (c .before .short-width .ensures), narrow _ (c .short-width2 .ensures), l .loop .inv .0 .within, origin l .pre .3, origin l .good .1 .1 .1 .1 .1 .1 .1 .1 .0 .1)
 
 same-length : tie.Need-same-length Inv-loop μ-loop
 same-length c = search needs
@@ -147,7 +143,7 @@ returns c =
     let r = e .before .before in
     let o = origin (head r) in
     answers o
-    (walk-over (started o) (o .pre .2) (head r .loop .inv .0) (another r .0) (another r .1) (e .if2 .left) (o .pre .7) (fits (c .before)) (c .if4 .taken) (k .before .short-width .ensures) (k .short-width2 .ensures))
+    (walk-over (started o) (o .pre .2) (head r .loop .inv .0) (another r .0) (another r .1) (e .if1 .left) (o .pre .7) (fits (c .before)) (c .if3 .taken) (k .before .short-width .ensures) (k .short-width2 .ensures))
 
 put-short-requires : tie.Need-put-short-requires Inv-loop μ-loop
 put-short-requires c κs =
@@ -183,11 +179,10 @@ loop-again c =
     let u = q .before .before .before in
     let e = found (u .before) in
     let r = e .before .before in
-    let o = origin (head r) in
-    let j = r .before .before .before in (
-      walk-next (started o) (o .pre .2) (head r .loop .inv .0) (another r .0) (another r .1) (e .if2 .left) (fits u) (q .before .before .if4 .left) (holds o) (o .pre .3)
+    let o = origin (head r) in (
+      walk-next (started o) (o .pre .2) (head r .loop .inv .0) (another r .0) (another r .1) (e .if1 .left) (fits u) (q .before .before .if3 .left) (holds o) (o .pre .3)
           (q .put-short .ensures .0) (q .put-short .ensures .1) (t .put-short2 .ensures .0) (t .put-short2 .ensures .1) (q .put-short .kept .0) (t .put-short2 .kept .0),
-      at-hand j .0 ∙ ap (λ (i : ℕ). getD (o .args .t1 .window .words) i 0) (sym (at-hand j .1)),
+      r .range-at .ensures .2,
     )
 
 same-length-2 : tie.Need-same-length-2 Inv-loop μ-loop
@@ -198,7 +193,7 @@ returns-2 c =
     let l = c .before in
     let o = origin l in
     answers o
-    (walk-all (started o) (o .pre .2) (l .loop .inv .0) (nothing-below (started o) (l .loop .place) (omega (arith, c .loop-test .left, l .before .before .before .before .minus-or-zero .ensures))))
+    (walk-all (started o) (o .pre .2) (l .loop .inv .0) (nothing-below (o .args .words .now) (o .args .end) (o .args .least) (l .loop .place) (c .loop-test .left)))
 
 same-length-3 : tie.Need-same-length-3 Inv-loop μ-loop
 same-length-3 c = search needs
@@ -208,7 +203,7 @@ returns-3 c =
     let r = c .before .before in
     let o = origin (head r) in
     answers o
-    (walk-all (started o) (o .pre .2) (head r .loop .inv .0) (size-none (o .args .t1) (head r .loop .place) (omega (arith, another r .1, c .if2 .taken))))
+    (walk-all (started o) (o .pre .2) (head r .loop .inv .0) (size-none (marks o) (head r .loop .place) (omega (arith, another r .1, c .if1 .taken))))
 
 same-length-4 : tie.Need-same-length-4 Inv-loop μ-loop
 same-length-4 c = search needs
@@ -220,7 +215,7 @@ returns-4 c =
     let r = e .before .before in
     let o = origin (head r) in
     answers o
-    (walk-full (started o) (o .pre .2) (head r .loop .inv .0) (another r .0) (another r .1) (e .if2 .left) (o .pre .7) (omega (arith, c .if3 .taken, k .before .short-width .ensures, k .short-width2 .ensures)))
+    (walk-full (started o) (o .pre .2) (head r .loop .inv .0) (another r .0) (another r .1) (e .if1 .left) (o .pre .7) (omega (arith, c .if2 .taken, k .before .short-width .ensures, k .short-width2 .ensures)))
 
 pub put-ranges-spec : {M : Type 1} → statement M
 put-ranges-spec =
@@ -228,11 +223,10 @@ put-ranges-spec =
     (tie.spec
     Inv-loop
     μ-loop
-    minus-or-zero-requires
-    word-at-requires
+    others-in-requires
+    shl-left
+    rem-left
     loop-holds
-    sub-below
-    word-at-requires-2
     range-at-requires
     sub-gap
     sub-more
