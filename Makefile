@@ -14,7 +14,7 @@ RUSTC = rustc --edition 2021 -L target/lib
 # How many inputs `make compare` makes for the replay program, how many files for the week's, and how many rounds of calls for the archive.
 INPUTS = 1700
 WEEKS = 1800
-ROUNDS = 5000
+ROUNDS = 4000
 
 # Where `make install` puts the library, and a folder to stage it under.
 PREFIX = /usr/local

@@ -5,86 +5,78 @@ use crate::archive::{Pieces as Raw, PiecesTaken, Report};
 use crate::compare_pieces::judge;
 use crate::compare_report::named;
 use crate::made_up_pieces::raw_after;
-use crate::pieces::{open, Pieces};
+use crate::pieces::{open, Pieces, Taken};
 use crate::random::Random;
 use crate::refusals::ACCEPTED;
 use crate::tally::{leaves, Call, Lent, Tally};
 
-/// The papers' reader after each byte of a report, once through and byte by byte.
-struct Course {
-    /// The reader before the first byte and after each one.
-    readers: Vec<Pieces>,
-    /// How many bytes had been taken, and how many records had come by then.
-    taken: Vec<usize>,
-    records: Vec<usize>,
-    /// All records that came.
-    came: Vec<u8>,
+/// How far a report has come.
+struct Place {
+    /// The words of the record.
+    record: Raw,
+    /// What a call that ends here answers: bytes taken and records are those since the first byte.
+    answer: PiecesTaken,
 }
 
-impl Course {
-    fn of(mut reader: Pieces, bytes: &[u8]) -> Course {
-        let size = reader.profile.record();
-        let mut buffer = vec![0; size];
-        let mut course = Course { readers: vec![reader.clone()], taken: vec![0], records: vec![0], came: Vec::new() };
-        for (place, byte) in bytes.iter().enumerate() {
-            let step = reader.take(&[*byte], &mut buffer);
-            course.came.extend_from_slice(&buffer[..step.records * size]);
-            course.readers.push(reader.clone());
-            course.taken.push(course.taken[place] + step.bytes);
-            course.records.push(course.records[place] + step.records);
-        }
-        course
+/// The papers' reader before the first byte of a report and after each one, once through and byte by byte; and the records that came.
+fn course(reader: &mut Pieces, bytes: &[u8]) -> (Vec<Place>, Vec<u8>) {
+    let opened = raw_after(&Raw { profile: reader.profile as u64 + 1, ..Raw::default() }, reader);
+    let (mut buffer, mut came) = (vec![0; reader.profile.record()], Vec::new());
+    let mut places: Vec<Place> = Vec::with_capacity(bytes.len() + 1);
+    for end in 0..=bytes.len() {
+        let Taken { result, bytes, records, header } = reader.take(&bytes[end.saturating_sub(1)..end], &mut buffer);
+        came.extend_from_slice(&buffer[..records * reader.profile.record()]);
+        let before = places.last().map_or((0, 0), |place| (place.answer.taken, place.answer.records));
+        let answer = PiecesTaken {
+            result,
+            taken: before.0 + bytes as u64,
+            records: before.1 + records as u64,
+            whole: u64::from(header.is_some()),
+            header: raw_header(&header.unwrap_or_default()),
+        };
+        places.push(Place { record: raw_after(&opened, reader), answer });
     }
-
-    /// What one call answers that takes the bytes between two places, with room for all records.
-    fn answer(&self, from: usize, to: usize) -> PiecesTaken {
-        let now = self.readers[to].clone().take(&[], &mut [0; 24]);
-        PiecesTaken {
-            result: now.result,
-            taken: (self.taken[to] - self.taken[from]) as u64,
-            records: (self.records[to] - self.records[from]) as u64,
-            whole: u64::from(now.header.is_some()),
-            header: raw_header(&now.header.unwrap_or_default()),
-        }
-    }
+    (places, came)
 }
 
 /// A report cut in two at every single place up to the first byte that is not taken, which a refusal leaves: what each call of the
 /// archive answers, leaves in the record and in all memory of the buffer and around it, is what the papers' reader comes to byte by
 /// byte.
 pub fn compare_everywhere(random: &mut Random, tally: &mut Tally, profile: u64, bytes: &[u8]) -> Result<(), String> {
-    let Ok(reader) = open(profile) else { return Ok(()) };
-    let (size, course) = (reader.profile.record(), Course::of(reader, bytes));
-    let mut ended = course.readers[bytes.len()].clone();
-    let end = match ended.end() {
+    let Ok(mut reader) = open(profile) else { return Ok(()) };
+    let size = reader.profile.record();
+    let (places, came) = course(&mut reader, bytes);
+    let end = match reader.end() {
         Ok(header) => Report { result: ACCEPTED, header: raw_header(&header) },
         Err(result) => Report { result, ..Report::default() },
     };
-    let lent = Lent::new(random, course.came.len() + size);
-    let opened = raw_after(&Raw { profile, ..Raw::default() }, &course.readers[0]);
-    let last = bytes.len().min(course.taken[bytes.len()] + 1);
-    for place in (0..=last).chain(Some(bytes.len()).filter(|end| *end > last)) {
-        let mut raw = opened;
+    let ended = raw_after(&places[bytes.len()].record, &reader);
+    let lent = Lent::new(random, came.len() + size);
+    let (mut wanted, mut memory) = (lent.clone(), lent.clone());
+    let [take, close] = [["pieces_take 1", "pieces_take 2", "pieces_take else"], ["pieces_end 1", "pieces_end 2", "pieces_end else"]]
+        .map(|names| named(profile, names));
+    let last = bytes.len().min(places[bytes.len()].answer.taken as usize + 1);
+    for place in (0..=last).chain(Some(bytes.len()).filter(|whole| *whole > last)) {
+        let mut raw = places[0].record;
         for (from, to) in [(0, place), (place, bytes.len())] {
-            let (mut wanted, mut memory) = (lent.clone(), lent.clone());
-            let new = &course.came[course.records[from] * size..course.records[to] * size];
+            let (before, after) = (&places[from].answer, &places[to].answer);
+            let papers = PiecesTaken { taken: after.taken - before.taken, records: after.records - before.records, ..*after };
+            let new = &came[before.records as usize * size..after.records as usize * size];
+            wanted.memory.copy_from_slice(&lent.memory);
             wanted.buffer()[..new.len()].copy_from_slice(new);
-            let papers = course.answer(from, to);
+            memory.memory.copy_from_slice(&lent.memory);
             let (part, start, room) = (&bytes[from..to], memory.buffer().as_mut_ptr(), lent.length);
             let (archive, next) =
                 leaves(&raw, |lent| unsafe { lumbixet_pieces_take(lent, part.as_ptr(), part.len(), start, room) })?;
-            let name = named(profile, ["pieces_take 1", "pieces_take 2", "pieces_take else"]);
-            let call = Call { name, result: papers.result, given: &(raw, part, room) };
-            let after = raw_after(&raw, &course.readers[to]);
-            tally.compare(call, (papers, &wanted.memory, after), (archive, &memory.memory, next))?;
+            let call = Call { name: take, result: papers.result, given: &(raw, part, room) };
+            tally.compare(call, (papers, &wanted.memory, &places[to].record), (archive, &memory.memory, &next))?;
             raw = next;
         }
         let archive = leaves(&raw, |lent| unsafe { lumbixet_pieces_end(lent) })?;
-        let name = named(profile, ["pieces_end 1", "pieces_end 2", "pieces_end else"]);
-        tally.compare(Call { name, result: end.result, given: &raw }, (end, raw_after(&raw, &ended)), archive)?;
+        tally.compare(Call { name: close, result: end.result, given: &raw }, (end, ended), archive)?;
     }
-    judge(profile, bytes, &course.came, &end)?;
-    tally.note("an accepted report with entries cut at every place", end.result == ACCEPTED && !course.came.is_empty());
+    judge(profile, bytes, &came, &end)?;
+    tally.note("an accepted report with entries cut at every place", end.result == ACCEPTED && !came.is_empty());
     tally.note("a report of 1,000 bytes cut at every place", bytes.len() >= 1000);
     tally.note("a refused report cut at every place", end.result != ACCEPTED);
     Ok(())

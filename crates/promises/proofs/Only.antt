@@ -16,8 +16,6 @@ use Rattle.window.proofs.first_missing.Reads as first-missing
 use Rattle.window.proofs.first_missing.Kinds as first-missing-kinds
 use Rattle.window.proofs.run_below.Reads as run-below
 use Rattle.window.proofs.run_below.Kinds as run-below-kinds
-use Rattle.window.proofs.Window.cleared_below.Reads as cleared-below
-use Rattle.window.proofs.Window.cleared_below.Kinds as cleared-below-kinds
 use Rattle.window.proofs.none_below.Reads as none-below
 use Rattle.window.proofs.none_below.Kinds as none-below-kinds
 
@@ -38,9 +36,6 @@ first-missing-one κs given x y s t p q = p ∙ sym q
 
 pub run-below-one : OneAnswer 1 run-below-kinds.ps run-below-kinds.r run-below.Post
 run-below-one κs given x y s t p q = p ∙ sym q
-
-pub cleared-below-one : OneAnswer 0 cleared-below-kinds.ps cleared-below-kinds.r cleared-below.Post
-cleared-below-one κs given x y s t p q = p ∙ sym q
 
 pub none-below-one : OneAnswer 1 none-below-kinds.ps none-below-kinds.r none-below.Post
 none-below-one κs given x y s t p q = p ∙ sym q

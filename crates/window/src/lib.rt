@@ -4,7 +4,7 @@
 ghost use mathlib.Core.Path.{_≡_};
 ghost use Prim.Native.Nat.{_*_, _/_, _-_, _^_, _<_, _≤_};
 ghost use Rattle.window.specs.Words.{numberOf, wordsOf, wordsIn, otherThan};
-ghost use Rattle.window.specs.Window.{places, valueOf, lentValue, windowOf, isSet, withBit, firstClear, runBelow, noneBelow, clearedBelow};
+ghost use Rattle.window.specs.Window.{places, valueOf, lentValue, windowOf, isSet, withBit, firstClear, runBelow, noneBelow};
 
 // How many places a window has.
 pub const PLACES: u64 = 1024;
@@ -205,23 +205,5 @@ impl Window {
         ensures { λ r. ⌜ r ≡ windowOf 0 ⌝ }
     {
         Window { words: [0u64; 16] }
-    }
-
-    // The window without the marks below place p: whole words become 0, and one word loses its low bits.
-    pub fn cleared_below(mut self, p: u64) -> Self
-        ensures { λ r. ⌜ r ≡ windowOf (clearedBelow p (valueOf self)) ⌝ }
-    {
-        if PLACES <= p {
-            return Window::empty();
-        }
-        let q = (p / 64) as usize;
-        let k = p % 64;
-        let word = self.words[q];
-        let low = word % (1 << k);
-        self.words[q] = word - low;
-        for i in 0..q {
-            self.words[i] = 0;
-        }
-        self
     }
 }
