@@ -16,6 +16,9 @@ INPUTS = 1700
 WEEKS = 1800
 ROUNDS = 4000
 
+# How often `make bench` goes over its rows.
+PASSES = 20
+
 # Where `make install` puts the library, and a folder to stage it under.
 PREFIX = /usr/local
 DESTDIR =
@@ -196,14 +199,14 @@ compare: paper
 bench: paper
 	@mkdir -p target/bench
 	@$(CC) $(CFLAGS) bench/*.c $(ARCHIVE) -o target/bench/bench
-	@target/bench/bench
+	@target/bench/bench $(PASSES)
 	@$(PAPER) trace-large > target/bench/large.trace
 	@echo
 	@echo 'A trace of a million records, 24 MB: the replay program, then the second implementation'
 	@bash -c 'TIMEFORMAT="replay  %R s"; time target/bin/replay < target/bench/large.trace > target/bench/replay.lines'
 	@bash -c 'TIMEFORMAT="paper   %R s"; time $(PAPER) replay < target/bench/large.trace > target/bench/paper.lines'
 	@cmp target/bench/replay.lines target/bench/paper.lines
-	@bench/replay-times target/bench/large.trace
+	@bench/replay-times target/bench/large.trace $(PASSES)
 	@echo
 	@echo 'A week of 1 GB, made and not stored: the program, the second implementation, and the making alone'
 	@bash -c 'TIMEFORMAT="week    %R s"; time $(PAPER) week-large 1000000000 | target/bin/week > target/bench/week.lines'

@@ -1,6 +1,7 @@
 /* Times the archive beside plain C on the same inputs. It prints figures and judges none of them. */
 #include <inttypes.h>
 #include <stdio.h>
+#include <stdlib.h>
 #include <string.h>
 
 #include "checks.h"
@@ -9,7 +10,7 @@
 #include "inputs.h"
 #include "rounds.h"
 
-enum { PASSES = 20, ROUNDS = 20 };
+enum { ROUNDS = 20 };
 
 struct row {
     const char *what;
@@ -118,9 +119,9 @@ static void time_row(size_t i, int pass)
 }
 
 /* All rows are gone through again and again, so that other work on the machine does not fall on one row alone. */
-static void time_all(void)
+static void time_all(int passes)
 {
-    for (int pass = 0; pass < PASSES; pass++) {
+    for (int pass = 0; pass < passes; pass++) {
         for (size_t i = 0; i < sizeof rows / sizeof rows[0]; i++)
             time_row(i, pass);
         for (int round = 0; round < ROUNDS; round++)
@@ -188,8 +189,8 @@ static void print_in_one_part(int profile, int whole)
            profile, part / best_of(read_reports, whole));
 }
 
-/* The processor's own name, as the system tells it. */
-static void print_machine(void)
+/* The processor's own name, as the system tells it, and how often a row is timed. */
+static void print_machine(int passes)
 {
     char line[256];
     const char *name = "unknown";
@@ -203,11 +204,13 @@ static void print_machine(void)
     if (file)
         fclose(file);
     printf("%s; C side by cc %s -O2; each figure the best of %d rounds in one run.\n", name, __VERSION__,
-           PASSES * ROUNDS);
+           passes * ROUNDS);
 }
 
-int main(void)
+/* bench [PASSES]: more passes find better rounds. */
+int main(int count, char **words)
 {
+    int passes = count > 1 ? atoi(words[1]) : 20;
     make_inputs();
     make_sent_inputs();
     compare_numbers();
@@ -219,12 +222,12 @@ int main(void)
     compare_pieces();
     printf("Compared before timing: %" PRIu64 " answers, all the same on both sides.\n\n", compared());
     measure_clock();
-    print_machine();
+    print_machine(passes);
     printf("Nanoseconds for one call; both sides take turns; two looks at the clock (%" PRIu64 " ns) are taken off.\n",
            clock_cost);
     printf("Packet rows time blocks of %d packets; the ACK written after each block is not timed.\n", BLOCK);
     printf("In the rows that begin with lent the record is lent, on both sides; in the others it goes by value.\n\n");
-    time_all();
+    time_all(passes);
     print_table();
     print_bytes();
     print_ranges();

@@ -18,7 +18,8 @@ struct Place {
     answer: PiecesTaken,
 }
 
-/// The papers' reader before the first byte of a report and after each one, once through and byte by byte; and the records that came.
+/// The papers' reader before the first byte of a report and after each one, once through and byte by byte, up to the first that is
+/// not taken, since a refusal stands; and the records that came.
 fn course(reader: &mut Pieces, bytes: &[u8]) -> (Vec<Place>, Vec<u8>) {
     let opened = raw_after(&Raw { profile: reader.profile as u64 + 1, ..Raw::default() }, reader);
     let (mut buffer, mut came) = (vec![0; reader.profile.record()], Vec::new());
@@ -35,6 +36,9 @@ fn course(reader: &mut Pieces, bytes: &[u8]) -> (Vec<Place>, Vec<u8>) {
             header: raw_header(&header.unwrap_or_default()),
         };
         places.push(Place { record: raw_after(&opened, reader), answer });
+        if result != ACCEPTED && bytes == 0 {
+            break;
+        }
     }
     (places, came)
 }
@@ -50,16 +54,16 @@ pub fn compare_everywhere(random: &mut Random, tally: &mut Tally, profile: u64, 
         Ok(header) => Report { result: ACCEPTED, header: raw_header(&header) },
         Err(result) => Report { result, ..Report::default() },
     };
-    let ended = raw_after(&places[bytes.len()].record, &reader);
+    let last = places.len() - 1;
+    let ended = raw_after(&places[last].record, &reader);
     let lent = Lent::new(random, came.len() + size);
     let (mut wanted, mut memory) = (lent.clone(), lent.clone());
     let [take, close] = [["pieces_take 1", "pieces_take 2", "pieces_take else"], ["pieces_end 1", "pieces_end 2", "pieces_end else"]]
         .map(|names| named(profile, names));
-    let last = bytes.len().min(places[bytes.len()].answer.taken as usize + 1);
     for place in (0..=last).chain(Some(bytes.len()).filter(|whole| *whole > last)) {
         let mut raw = places[0].record;
         for (from, to) in [(0, place), (place, bytes.len())] {
-            let (before, after) = (&places[from].answer, &places[to].answer);
+            let (before, after) = (&places[from.min(last)].answer, &places[to.min(last)].answer);
             let papers = PiecesTaken { taken: after.taken - before.taken, records: after.records - before.records, ..*after };
             let new = &came[before.records as usize * size..after.records as usize * size];
             wanted.memory.copy_from_slice(&lent.memory);
@@ -69,7 +73,7 @@ pub fn compare_everywhere(random: &mut Random, tally: &mut Tally, profile: u64, 
             let (archive, next) =
                 leaves(&raw, |lent| unsafe { lumbixet_pieces_take(lent, part.as_ptr(), part.len(), start, room) })?;
             let call = Call { name: take, result: papers.result, given: &(raw, part, room) };
-            tally.compare(call, (papers, &wanted.memory, &places[to].record), (archive, &memory.memory, &next))?;
+            tally.compare(call, (papers, &wanted.memory, &places[to.min(last)].record), (archive, &memory.memory, &next))?;
             raw = next;
         }
         let archive = leaves(&raw, |lent| unsafe { lumbixet_pieces_end(lent) })?;

@@ -18,14 +18,14 @@ const METRICS: usize = 7;
 /// A number of the list in a form that is longer than needed: its place and the form's length.
 type Longer = (usize, usize);
 
-/// One report, in order or with a fault, in all these forms.
-pub fn round(random: &mut Random, tally: &mut Tally) -> Result<(), String> {
+/// One report, in order or with a fault, by turns, in all these forms.
+pub fn round(random: &mut Random, tally: &mut Tally, turn: usize) -> Result<(), String> {
     let number = profile(random);
     let profile = profile_of(number);
     let mut header = header(random, profile);
     let mut count = random.one_of(&[0, 1, 3]);
-    match random.below(8) {
-        0 => header.total ^= 1,
+    match turn % 8 {
+        0 => header.lost = (header.lost + 1) % 64,
         1 => header.metrics = random.between(profile.most_metrics() as u64 + 1, 63),
         2 => (header.metrics, header.kinds[0]) = (header.metrics.max(1), random.one_of(&[1, 3, 63])),
         3 => count = 201,
