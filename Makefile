@@ -1,6 +1,19 @@
 # The two commands of README.md are `make test` and `make run`; the others show the library from outside.
-.PHONY: help test run picture week archive program command build host relay rust install uninstall paper compare bench
+.PHONY: help test emulated run picture week archive program command build host relay rust install uninstall installed paper compare bench
 
+# The archive and the programs are x86-64 code. On another processor what is linked with them is compiled for it, and emulated.
+ifeq ($(shell uname -m),x86_64)
+NM = nm
+RUST = rustc
+RUSTDOC = rustdoc
+else
+CC = x86_64-linux-gnu-gcc
+CXX = x86_64-linux-gnu-g++
+AR = x86_64-linux-gnu-ar
+NM = x86_64-linux-gnu-nm
+RUST = /usr/bin/rustc --target x86_64-unknown-linux-gnu -C linker=$(CC)
+RUSTDOC = /usr/bin/rustdoc --target x86_64-unknown-linux-gnu -C linker=$(CC)
+endif
 CFLAGS = -std=c11 -Wall -Wextra -Wpedantic -Werror -O2 -Iinclude
 # The archive as hosts link it, and the crates whose archives are joined in it.
 ARCHIVE = target/lib/liblumbixet.a
@@ -9,7 +22,7 @@ SOURCES = crates.txt $(shell find crates -name '*.rt' -o -name '*.antt')
 PAPER = target/paper/paper
 # The command of the technical desk.
 COMMAND = target/command/lumbixet
-RUSTC = rustc --edition 2021 -L target/lib
+RUSTC = $(RUST) --edition 2021 -L target/lib
 
 # How many inputs `make compare` makes for the replay program, how many files for the week's, and how many rounds of calls for the archive.
 INPUTS = 1700
@@ -41,7 +54,11 @@ help:
 test:
 	@.ci/run
 
-run:
+# Nothing on x86-64.
+emulated:
+	@tools/emulate
+
+run: emulated
 	@echo 'Proving the replay program and what it stands on. The first time this takes some minutes; what is proved says so.'
 	@rt check replay
 	@echo
@@ -49,7 +66,7 @@ run:
 	@echo
 	@target/bin/replay < examples/hearing.trace
 
-picture: command
+picture: emulated command
 	@rt check week
 	@$(COMMAND) replay --picture target/hearing.svg examples/hearing.trace > target/hearing.lines
 	@mv target/hearing.svg examples/hearing.svg
@@ -60,7 +77,7 @@ picture: command
 	@mv target/objects.svg examples/objects.svg
 	@echo 'picture: examples/hearing.svg, examples/week.svg and examples/objects.svg'
 
-week:
+week: emulated
 	@rt check week
 	@echo
 	@echo 'The page of examples/week.reports:'
@@ -74,15 +91,15 @@ $(ARCHIVE): $(SOURCES) Makefile
 	@set -e; for crate in $(EXPORTS); do rt staticlib $$crate; done
 	@mkdir -p target/lib
 	@rm -f $@ target/lib/joined.a
-	@{ echo create target/lib/joined.a; for crate in $(EXPORTS); do echo addlib target/staticlib/lib$$crate.a; done; echo save; echo end; } | ar -M
-	@nm -g --defined-only target/lib/joined.a | awk 'NF == 3 && ($$3 !~ /^lumbixet_/ || names[$$3]++) { print "archive: " $$3; bad = 1 } END { exit bad || NR == 0 }'
+	@{ echo create target/lib/joined.a; for crate in $(EXPORTS); do echo addlib target/staticlib/lib$$crate.a; done; echo save; echo end; } | $(AR) -M
+	@$(NM) -g --defined-only target/lib/joined.a | awk 'NF == 3 && ($$3 !~ /^lumbixet_/ || names[$$3]++) { print "archive: " $$3; bad = 1 } END { exit bad || NR == 0 }'
 	@mv target/lib/joined.a $@
 
 program:
 	@rt check replay week
 
 # The command, by rustc alone as the crate is. It is built whole, so that the crate's calls are in line.
-command: archive
+command: emulated archive
 	@mkdir -p target/command
 	@$(RUSTC) -O --crate-type rlib --crate-name lumbixet -o target/command/liblumbixet.rlib bindings/rust/src/lib.rs
 	@$(RUSTC) -C opt-level=3 -C codegen-units=1 -C lto -C panic=abort --crate-name lumbixet_command \
@@ -97,7 +114,11 @@ install:
 uninstall:
 	@tools/install --remove '$(PREFIX)' '$(DESTDIR)'
 
-host: archive
+# What is installed, as a host finds it.
+installed: build
+	@CC='$(CC)' tools/check-install
+
+host: emulated archive
 	@mkdir -p target/host
 	@echo
 	@$(CC) $(CFLAGS) tools/check-header.c $(ARCHIVE) -o target/host/check-header
@@ -146,13 +167,13 @@ host: archive
 	@cat target/host/room.out
 
 # It shows how far it is where standard error is a terminal.
-relay: archive
+relay: emulated archive
 	@mkdir -p target/host
 	@$(CC) $(CFLAGS) examples/relay.c $(ARCHIVE) -o target/host/relay
 	@target/host/relay
 
 # The crate for hosts in Rust and its tests, by rustc alone, which needs no network and no registry.
-rust: archive
+rust: emulated archive
 	@mkdir -p target/rust
 	@$(RUSTC) -O --crate-type rlib --crate-name lumbixet -o target/rust/liblumbixet.rlib bindings/rust/src/lib.rs
 	@$(RUSTC) --crate-type rlib --crate-name lumbixet --cfg 'feature="std"' -o target/rust/with-std.rlib bindings/rust/src/lib.rs
@@ -160,8 +181,8 @@ rust: archive
 	    $(RUSTC) --test --extern lumbixet=target/rust/liblumbixet.rlib -o target/rust/$$test bindings/rust/tests/$$test.rs; \
 	    target/rust/$$test -q; \
 	done
-	@if command -v rustdoc >/dev/null; then \
-	    rustdoc --edition 2021 -L target/lib --extern lumbixet=target/rust/liblumbixet.rlib --crate-name lumbixet --test bindings/rust/src/lib.rs; fi
+	@if command -v $(firstword $(RUSTDOC)) >/dev/null; then \
+	    $(RUSTDOC) --edition 2021 -L target/lib --extern lumbixet=target/rust/liblumbixet.rlib --crate-name lumbixet --test bindings/rust/src/lib.rs; fi
 	@$(RUSTC) -o target/rust/build bindings/rust/build.rs
 	@CARGO_MANIFEST_DIR=bindings/rust target/rust/build | grep -q '^cargo:rustc-link-search=native=bindings/rust/../../target/lib$$'
 	@echo "rust: the crate told the room's story, and its build script finds the archive"
@@ -169,7 +190,7 @@ rust: archive
 # The second implementation, linked with the archive.
 paper: build
 	@mkdir -p target/paper
-	@rustc -O --edition 2021 --cfg archive -L target/lib -o $(PAPER) tools/paper/main.rs
+	@$(RUSTC) -O --cfg archive -o $(PAPER) tools/paper/main.rs
 	@echo
 
 compare: paper
@@ -183,7 +204,7 @@ compare: paper
 	@$(PAPER) compare-replay '$(COMMAND) replay' $(INPUTS)
 	@echo
 	@echo "The week's program and the second implementation, in 64 KiB of stack"
-	@bash -c 'ulimit -s 64 && exec target/bin/week' < crates/week/stdin | cmp - crates/week/stdout
+	@tools/in-stack 64 target/bin/week < crates/week/stdin | cmp - crates/week/stdout
 	@$(PAPER) compare-week target/bin/week $(WEEKS)
 	@echo
 	@echo 'The command, over the same files'
