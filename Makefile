@@ -6,6 +6,7 @@ ifeq ($(shell uname -m),x86_64)
 NM = nm
 RUST = rustc
 RUSTDOC = rustdoc
+PAPER_AND_ARCHIVE = $(PAPER)
 else
 CC = x86_64-linux-gnu-gcc
 CXX = x86_64-linux-gnu-g++
@@ -13,6 +14,7 @@ AR = x86_64-linux-gnu-ar
 NM = x86_64-linux-gnu-nm
 RUST = /usr/bin/rustc --target x86_64-unknown-linux-gnu -C linker=$(CC)
 RUSTDOC = /usr/bin/rustdoc --target x86_64-unknown-linux-gnu -C linker=$(CC)
+PAPER_AND_ARCHIVE = target/paper/paper-and-archive
 endif
 CFLAGS = -std=c11 -Wall -Wextra -Wpedantic -Werror -O2 -Iinclude
 # The archive as hosts link it, and the crates whose archives are joined in it.
@@ -27,10 +29,11 @@ RUSTC = $(RUST) --edition 2021 -L target/lib
 # How many inputs `make compare` makes for the replay program, how many files for the week's, and how many rounds of calls for the archive.
 INPUTS = 1700
 WEEKS = 1800
-ROUNDS = 4000
+ROUNDS = 2500
 
-# How often `make bench` goes over its rows.
+# How often `make bench` goes over its rows, and how many bytes its week has.
 PASSES = 20
+WEEK = 1000000000
 
 # Where `make install` puts the library, and a folder to stage it under.
 PREFIX = /usr/local
@@ -187,10 +190,11 @@ rust: emulated archive
 	@CARGO_MANIFEST_DIR=bindings/rust target/rust/build | grep -q '^cargo:rustc-link-search=native=bindings/rust/../../target/lib$$'
 	@echo "rust: the crate told the room's story, and its build script finds the archive"
 
-# The second implementation, linked with the archive.
+# The second implementation, linked with the archive; where that is emulated, also without it.
 paper: build
 	@mkdir -p target/paper
-	@$(RUSTC) -O --cfg archive -o $(PAPER) tools/paper/main.rs
+	@$(RUSTC) -O --cfg archive -o $(PAPER_AND_ARCHIVE) tools/paper/main.rs
+	@[ $(PAPER) = $(PAPER_AND_ARCHIVE) ] || rustc -O --edition 2021 -o $(PAPER) tools/paper/main.rs
 	@echo
 
 compare: paper
@@ -211,7 +215,7 @@ compare: paper
 	@$(PAPER) compare-week '$(COMMAND) week' $(WEEKS)
 	@echo
 	@echo 'The archive and the second implementation'
-	@$(PAPER) compare-archive $(ROUNDS)
+	@$(PAPER_AND_ARCHIVE) compare-archive $(ROUNDS)
 	@echo
 	@echo 'The relay of two thousand rooms, by the second implementation'
 	@$(PAPER) relay | cmp - examples/relay.expected
@@ -220,6 +224,7 @@ compare: paper
 bench: paper
 	@mkdir -p target/bench
 	@$(CC) $(CFLAGS) bench/*.c $(ARCHIVE) -o target/bench/bench
+	@[ $(PAPER) = $(PAPER_AND_ARCHIVE) ] || echo 'x86-64 is emulated here: the answers are compared, the times say nothing'
 	@target/bench/bench $(PASSES)
 	@$(PAPER) trace-large > target/bench/large.trace
 	@echo
@@ -229,8 +234,8 @@ bench: paper
 	@cmp target/bench/replay.lines target/bench/paper.lines
 	@bench/replay-times target/bench/large.trace $(PASSES)
 	@echo
-	@echo 'A week of 1 GB, made and not stored: the program, the second implementation, and the making alone'
-	@bash -c 'TIMEFORMAT="week    %R s"; time $(PAPER) week-large 1000000000 | target/bin/week > target/bench/week.lines'
-	@bash -c 'TIMEFORMAT="paper   %R s"; time $(PAPER) week-large 1000000000 | $(PAPER) week > target/bench/week-paper.lines'
-	@bash -c 'TIMEFORMAT="making  %R s"; time $(PAPER) week-large 1000000000 | cat > /dev/null'
+	@echo 'A week of $(WEEK) bytes, made and not stored: the program, the second implementation, and the making alone'
+	@bash -c 'TIMEFORMAT="week    %R s"; time $(PAPER) week-large $(WEEK) | target/bin/week > target/bench/week.lines'
+	@bash -c 'TIMEFORMAT="paper   %R s"; time $(PAPER) week-large $(WEEK) | $(PAPER) week > target/bench/week-paper.lines'
+	@bash -c 'TIMEFORMAT="making  %R s"; time $(PAPER) week-large $(WEEK) | cat > /dev/null'
 	@cmp target/bench/week.lines target/bench/week-paper.lines

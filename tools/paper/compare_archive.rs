@@ -7,7 +7,7 @@ use crate::{compare_codec, compare_counts, compare_forms, compare_limits, compar
 use crate::{compare_ranges, compare_receiver, compare_report, compare_sent, compare_totals, compare_tracker};
 
 /// So many rounds read and write reports: each of them is also cut at every single place, which takes calls for each byte of it.
-const WITH_REPORTS: usize = 240;
+const WITH_REPORTS: usize = 120;
 
 /// Each round takes a made-up record through all calls, goes on with a grown one, and reads and writes frames and a report.
 /// Some rounds take a report through all its longer forms, some through the counts of entries at the limit, some through what
