@@ -1,6 +1,7 @@
 pub mod Listed
 pub mod Counting
 pub mod Bringing
+pub mod Growing
 pub mod Stepping
 pub mod Pasting
 pub mod Summing

@@ -17,8 +17,9 @@ use Rattle.entries.specs.declared.Profile.the-variants.{One}
 use Rattle.report.specs.Reader.{readReport}
 use Rattle.report.proofs.Exactly.{report-reads}
 use Rattle.totals.specs.Totals.{longest, tooLong, numberOf}
+use Rattle.totals.specs.Adding.{brings}
 use Rattle.totals.specs.Sums.{NumbersHavePlaces}
-use Rattle.totals.proofs.Summing.{number-long, number-read}
+use Rattle.totals.proofs.Summing.{number-long, number-read, brings-number}
 
 -- none of the numbers is above 20
 abbrev low : List ℕ → Bool
@@ -43,3 +44,6 @@ numbers-have-places r =
       | yes h ↦ rw (number-read r h) (one-low (readReport One r .refusal) given (report-reads One r .others) refl)
       | no h ↦ rw (number-long r (lt-of-not-le h)) (le-refl tooLong)
     ]
+
+pub brings-low : (r : List ℕ) → brings r .number ≤ tooLong
+brings-low r = rw (brings-number r) (numbers-have-places r)

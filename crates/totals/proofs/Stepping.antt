@@ -15,9 +15,11 @@ use Rattle.wire.specs.declared.Fixed.the-variants.{Value, Ends}
 use Rattle.totals.specs.declared.Totals.{Totals}
 use Rattle.totals.specs.declared.Standing.{Standing}
 use Rattle.totals.specs.declared.Taken.{Taken}
-use Rattle.totals.specs.Totals.{longest}
-use Rattle.totals.specs.Adding.{added}
+use Rattle.totals.specs.declared.Brought.{Brought}
+use Rattle.totals.specs.Totals.{longest, tooLong}
+use Rattle.totals.specs.Adding.{refusedBrings, brings, Held, with, added}
 use Rattle.totals.specs.Files.{lengthSize, lengthAt, reportAt, withLong, nothing, skipped, oneReport, behindLength, stepOf, takenFrom, taken}
+use Rattle.totals.proofs.Growing.{with-held}
 
 module _ (st : Standing) (s : List ℕ) where
   pub step-skip : 0 < st .skip → stepOf st s ≡ skipped st (min (st .skip) (length s))
@@ -44,25 +46,41 @@ module _ (st : Standing) (s : List ℕ) where
           → stepOf st s ≡ record { next = record { totals = added (st .totals) (reportAt s); skip = 0 }; used = lengthSize + lengthAt s }
       step-whole l k = step-reads ∙ rw (le-leb (lengthAt s) longest l, le-leb (lengthSize + lengthAt s) (length s) k)
 
-  pub step-within : stepOf st s .used ≤ length s
-  step-within =
+  -- what holds of each of these holds of every step
+  step-is : (P : Taken → Type 0) → P (skipped st (min (st .skip) (length s))) → P (nothing st)
+      → (lengthSize ≤ length s → P (record { next = record { totals = withLong (st .totals); skip = lengthAt s }; used = lengthSize }))
+      → (lengthSize + lengthAt s ≤ length s → P (record { next = record { totals = added (st .totals) (reportAt s); skip = 0 }; used = lengthSize + lengthAt s }))
+      → P (stepOf st s)
+  step-is P skips stops longs wholes =
       elim (decLe 1 (st .skip)) [
-        | yes p ↦ rw (step-skip p) (omega arith)
+        | yes p ↦ rw (step-skip p) skips
         | no p ↦
             let z : st .skip ≤ 0 = omega (arith, lt-of-not-le p) in
             elim (decLe lengthSize (length s)) [
-              | no h ↦ rw (step-ends z (lt-of-not-le h)) (omega arith)
+              | no h ↦ rw (step-ends z (lt-of-not-le h)) stops
               | yes h ↦
                   elim (decLe (lengthAt s) longest) [
-                    | no l ↦ rw (step-long z h (lt-of-not-le l)) h
+                    | no l ↦ rw (step-long z h (lt-of-not-le l)) (longs h)
                     | yes l ↦
                         elim (decLe (lengthSize + lengthAt s) (length s)) [
-                          | yes k ↦ rw (step-whole z h l k) k
-                          | no k ↦ rw (step-part z h l (lt-of-not-le k)) (omega arith)
+                          | yes k ↦ rw (step-whole z h l k) (wholes k)
+                          | no k ↦ rw (step-part z h l (lt-of-not-le k)) stops
                         ]
                   ]
             ]
       ]
+
+  pub step-within : stepOf st s .used ≤ length s
+  step-within = step-is (λ k. k .used ≤ length s) (omega arith) (omega arith) (λ h. h) (λ h. h)
+
+  -- a step that takes nothing changes nothing
+  step-still : stepOf st s .used ≡ 0 → stepOf st s .next ≡ st
+  step-still = step-is (λ k. k .used ≡ 0 → k .next ≡ st) (λ e. rw e (let z : st .skip - 0 ≡ st .skip = omega arith in rw z)) (λ e. refl) (λ h e. absurd (omega arith)) (λ h e. absurd (omega arith))
+
+  -- what a step leaves can be lent to the next one
+  pub step-held : Held (st .totals) → Held (stepOf st s .next .totals)
+  unfolding withLong
+  step-held h = step-is (λ k. Held (k .next .totals)) h h (λ l. with-held (st .totals) (refusedBrings tooLong)) (λ l. with-held (st .totals) (brings (reportAt s)))
 
 -- ---- as the code tests: n is what the reader of the length answered
 
@@ -89,6 +107,15 @@ module _ (st : Standing) (s : List ℕ) (z : st .skip ≤ 0) {n : Fixed} (e : n 
     told-whole l k g =
         let m : lengthSize + v - lengthSize ≡ v = omega arith in
         told (rw (le-leb v longest l, le-leb (lengthSize + v) (length s) k, g, m))
+
+-- b is what a report that is too long brings
+pub long-added : (t : Totals) {more : Totals} {b : Brought} → b ≡ refusedBrings tooLong → more ≡ with t b → more ≡ withLong t
+unfolding withLong
+long-added t e g = g ∙ ap (with t) e
+
+pub refused-low : (n : ℕ) → n ≤ tooLong → refusedBrings n .number ≤ tooLong
+unfolding refusedBrings
+refused-low n h = h
 
 -- nothing is taken from no bytes
 pub step-empty : (st : Standing) (s : List ℕ) → length s ≡ 0 → stepOf st s .used ≡ 0
@@ -151,14 +178,20 @@ module _ (st : Standing) (s : List ℕ) where
 
     -- k is what the step answered
     module _ (k : Taken) (e : k ≡ stepOf current (take (length s - at) (drop at s))) where
-      step-is : k ≡ stepOf current (drop at s)
-      step-is = e ∙ ap (stepOf current) lent
+      step-told : k ≡ stepOf current (drop at s)
+      step-told = e ∙ ap (stepOf current) lent
 
       pub going-within : at + k .used ≤ length s
-      going-within = let l = step-within current (drop at s) in rw step-is (omega (arith, length-drop at s, p .within))
+      going-within = let l = step-within current (drop at s) in rw step-told (omega (arith, length-drop at s, p .within))
 
-      pub going-stop : k .used ≡ 0 → record { next = current; used = at } ≡ taken st s
-      going-stop z = sym (taken-stop (length s - at) current (drop at s) at (rw step-is at z)) ∙ p .left
+      pub going-stop : k .used ≡ 0 → record { next = k .next; used = at } ≡ taken st s
+      going-stop z =
+          let u : stepOf current (drop at s) .used ≡ 0 = rw step-told at z in
+          let n : k .next ≡ current = rw step-told (step-still current (drop at s) u) in
+          rw n (sym (taken-stop (length s - at) current (drop at s) at u) ∙ p .left)
+
+      pub going-held : Held (current .totals) → Held (k .next .totals)
+      going-held h = rw step-told (step-held current (drop at s) h)
 
       pub going-on : (k .used ≡ 0 → ⊥) → Going st s (k .next) (at + k .used)
       going-on f =
@@ -170,7 +203,7 @@ module _ (st : Standing) (s : List ℕ) where
             within = w;
             left =
                 steps-enough (length s - (at + k .used)) (length s - at - 1) (k .next) (drop (at + k .used) s) (at + k .used) m l
-                ∙ rw (← drop-drop (k .used) at s) (sym (rw step-is (taken-more (length s - at - 1) current (drop at s) at (λ q. f (rw step-is q)))) ∙ rw z at (p .left));
+                ∙ rw (← drop-drop (k .used) at s) (sym (rw step-told (taken-more (length s - at - 1) current (drop at s) at (λ q. f (rw step-told q)))) ∙ rw z at (p .left));
           }
 
     pub going-end : length s ≤ at → record { next = current; used = at } ≡ taken st s

@@ -66,7 +66,7 @@ module _ (place : ℕ) where
   unfolding share acceptedBrings partIn
   share-accepted r h l = rw (lt-leb place tooLong h, four (λ k. statusCount k (entriesOf One r)) (place - 25) (omega arith))
 
-  share-number : (b : Brought) → place ≤ tooLong → share b place ≡ one place (b .number)
+  pub share-number : (b : Brought) → place ≤ tooLong → share b place ≡ one place (b .number)
   unfolding share
   share-number b h = rw (le-leb place tooLong h)
 

@@ -1,5 +1,6 @@
 -- One report more: what it brings, and any totals with it.
-use Prim.Native.Nat.{ℕ, _+_, _-_}
+use Prim.Native.Nat.{ℕ, _+_, _-_, _≤_, _<_}
+use mathlib.Core.Path.{_≡_}
 use mathlib.Core.List.{List, [], _∷_}
 use lib.Dec.{eqb, leb}
 use lib.ListN.{length, getD, replicate}
@@ -55,3 +56,15 @@ with t b = record { sums = listed places (sumWith t b); full = listed places (ma
 
 abbrev pub added : Totals → List ℕ → Totals
 added t r = with t (brings r)
+
+-- ---- sums that are lent
+
+-- the totals whose sums and marks are lent one by one
+abbrev pub over : List ℕ → List ℕ → Totals
+over sums full = record { sums = sums; full = full }
+
+-- as arrays hold them: every place has its sum, a word of 64 bits, and its mark
+pub record Held (t : Totals) : Type 0 where
+  pub sums-long : length (t .sums) ≡ places
+  pub marks-long : length (t .full) ≡ places
+  pub words : (place : ℕ) → place < places → getD (t .sums) place 0 ≤ most

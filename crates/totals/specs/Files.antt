@@ -10,6 +10,7 @@ use Rattle.wire.specs.declared.Fixed.the-variants.{Value, Ends}
 use Rattle.totals.specs.declared.Totals.{Totals}
 use Rattle.totals.specs.declared.Standing.{Standing}
 use Rattle.totals.specs.declared.Taken.{Taken}
+use Rattle.totals.specs.declared.Step.{Step}
 use Rattle.totals.specs.declared.Added.{Added}
 use Rattle.totals.specs.Totals.{longest, tooLong, numberOf, places}
 use Rattle.totals.specs.Adding.{refusedBrings, with, added}
@@ -84,6 +85,10 @@ unfoldable pub stepOf : Standing → List ℕ → Taken
 stepOf st s =
     pick (ltb 0 (st .skip)) (skipped st (min (st .skip) (length s)))
     (behindLength (readFixed lengthSize s 0) st s)
+
+-- a step that leaves the totals in lent sums
+abbrev pub stepped : Totals → Step → Taken
+stepped t k = record { next = record { totals = t; skip = k .skip }; used = k .used }
 
 -- at most n steps, as long as they take something; at is how many bytes were taken before
 unfoldable pub takenFrom : ℕ → Standing → List ℕ → ℕ → Taken

@@ -1,10 +1,12 @@
 // One report more in the totals.
 ghost use mathlib.Core.Path.{_≡_};
-ghost use Prim.Native.Nat.{_<_, _≤_};
-ghost use lib.ListN.{length};
-ghost use Rattle.totals.specs.Totals.{longest, one, places, statusCounts};
-ghost use Rattle.totals.specs.Adding.{refusedBrings, brings, share, with, added};
-ghost use Rattle.totals.specs.Files.{withLong, reported};
+ghost use Prim.Native.Nat.{_+_, _<_, _≤_};
+ghost use lib.Dec.{leb};
+ghost use lib.ListN.{length, getD, set};
+ghost use Rattle.wire.specs.Bytes.{pick};
+ghost use Rattle.totals.specs.Totals.{longest, tooLong, one, places, most, kept, statusCounts};
+ghost use Rattle.totals.specs.Adding.{refusedBrings, brings, over, Held, with, added};
+ghost use Rattle.totals.specs.Files.{reported};
 use crate::AT_ENTRIES;
 use crate::AT_LATE;
 use crate::AT_LOST;
@@ -53,7 +55,7 @@ fn count_statuses(records: &[u8]) -> [u64; 4]
 
 impl Brought {
     // A refused report brings its number alone.
-    fn refused(number: u64) -> Brought
+    pub(crate) fn refused(number: u64) -> Brought
         ensures { λ r. ⌜ r ≡ refusedBrings number ⌝ }
     {
         let statuses = [0u64; 4];
@@ -68,7 +70,7 @@ impl Brought {
     }
 
     // What the report brings.
-    fn by(report: &[u8]) -> Brought
+    pub(crate) fn by(report: &[u8]) -> Brought
         ensures { λ r. ⌜ r ≡ brings (now (report .entry)) ⌝ }
     {
         if LONGEST < report.len() {
@@ -93,64 +95,56 @@ impl Brought {
         }
     }
 
-    // What of it belongs in the place.
-    fn share(self, place: usize) -> u64
-        requires { ⌜ place < places ⌝ }
-        ensures { λ r. ⌜ r ≡ share self place ⌝ }
+    // Adds it to the lent sums: one in the place of its number, then the totals and the statuses.
+    pub(crate) fn add_in(self, sums: &mut [u64; PLACES], full: &mut [u64; PLACES])
+        requires { ⌜ (self .number ≤ tooLong) × Held (over (now sums) (now full)) ⌝ }
+        ensures { λ r. ⌜ over (now (sums .exit)) (now (full .exit)) ≡ with (over (now (sums .entry)) (now (full .entry))) self ⌝ }
     {
-        if place as u64 <= TOO_LONG {
-            if self.number == place as u64 {
-                return 1;
-            }
-            return 0;
-        }
         let statuses = self.statuses;
-        match place {
-            AT_TOTAL => self.total,
-            AT_RECEIVED => self.received,
-            AT_LATE => self.late,
-            AT_LOST => self.lost,
-            _ => statuses[place - AT_ENTRIES],
-        }
+        add_at(sums, full, self.number as usize, 1);
+        add_at(sums, full, AT_TOTAL, self.total);
+        add_at(sums, full, AT_RECEIVED, self.received);
+        add_at(sums, full, AT_LATE, self.late);
+        add_at(sums, full, AT_LOST, self.lost);
+        add_at(sums, full, AT_ENTRIES, statuses[0]);
+        add_at(sums, full, AT_ENTRIES + 1, statuses[1]);
+        add_at(sums, full, AT_ENTRIES + 2, statuses[2]);
+        add_at(sums, full, AT_ENTRIES + 3, statuses[3]);
+    }
+}
+
+// How much the sum can grow by.
+fn room(sum: u64) -> u64
+    ensures { λ r. ⌜ sum + r ≡ most ⌝ }
+{
+    u64::MAX - sum
+}
+
+// So much more in one place of the lent sums; a sum that would pass 2^64 - 1 stays there and is full.
+fn add_at(sums: &mut [u64; PLACES], full: &mut [u64; PLACES], place: usize, more: u64)
+    requires { ⌜ place < places ⌝ }
+    ensures { λ r. ⌜ (now (sums .exit) ≡ set (now (sums .entry)) place (kept (getD (now (sums .entry)) place 0 + more)))
+        × (now (full .exit) ≡ set (now (full .entry)) place (pick (leb (getD (now (sums .entry)) place 0 + more) most) (getD (now (full .entry)) place 0) 1)) ⌝ }
+{
+    let sum = sums[place];
+    if room(sum) < more {
+        sums[place] = u64::MAX;
+        full[place] = 1;
+    } else {
+        sums[place] = sum + more;
     }
 }
 
 impl Totals {
-    // The totals with what a report brings; a sum that would pass 2^64 - 1 stays there and is full.
-    fn with(self, brought: Brought) -> Totals
-        ensures { λ r. ⌜ r ≡ with self brought ⌝ }
-    {
-        let mut sums = self.sums;
-        let mut full = self.full;
-        let mut i: usize = 0;
-        while i < PLACES {
-            let more = brought.share(i);
-            let sum = sums[i];
-            if u64::MAX - sum < more {
-                sums[i] = u64::MAX;
-                full[i] = 1;
-            } else {
-                sums[i] = sum + more;
-            }
-            i += 1;
-        }
-        Totals { sums, full }
-    }
-
     // The totals with one report more.
     pub fn add(self, report: &[u8]) -> Totals
         ensures { λ r. ⌜ r ≡ added self (now (report .entry)) ⌝ }
     {
+        let mut sums = self.sums;
+        let mut full = self.full;
         let brought = Brought::by(report);
-        self.with(brought)
-    }
-
-    // The totals with one report more, which is too long and is not held.
-    pub(crate) fn add_long(self) -> Totals
-        ensures { λ r. ⌜ r ≡ withLong self ⌝ }
-    {
-        let brought = Brought::refused(TOO_LONG);
-        self.with(brought)
+        brought.add_in(&mut sums, &mut full);
+        Totals { sums, full }
     }
 }
 
@@ -159,9 +153,12 @@ impl Standing {
     pub fn add(self, report: &[u8]) -> Added
         ensures { λ r. ⌜ r ≡ reported self (now (report .entry)) ⌝ }
     {
-        let brought = Brought::by(report);
         let before = self.totals;
-        let totals = before.with(brought);
+        let mut sums = before.sums;
+        let mut full = before.full;
+        let brought = Brought::by(report);
+        brought.add_in(&mut sums, &mut full);
+        let totals = Totals { sums, full };
         let next = Standing {
             totals,
             skip: self.skip,

@@ -2,10 +2,14 @@
 ghost use mathlib.Core.Path.{_≡_};
 ghost use Prim.Native.Nat.{_≤_};
 ghost use lib.ListN.{length};
-ghost use Rattle.totals.specs.Files.{start, stepOf, taken, moved};
+ghost use Rattle.totals.specs.Adding.{over, Held};
+ghost use Rattle.totals.specs.Files.{start, stepOf, stepped, taken, moved};
+use crate::Brought;
 use crate::LONGEST;
 use crate::PLACES;
 use crate::Standing;
+use crate::Step;
+use crate::TOO_LONG;
 use crate::Taken;
 use crate::Totals;
 use wire::Fixed;
@@ -26,74 +30,65 @@ impl Standing {
         Standing { totals, skip: 0 }
     }
 
-    // Takes one thing from the start of s: bytes to be skipped, a report, or the length of one that is too long.
-    // Nothing is taken where the report is not whole.
-    fn step(self, s: &[u8]) -> Taken
-        ensures { λ r. ⌜ r ≡ stepOf self (now (s .entry)) ⌝ }
-    {
-        let totals = self.totals;
-        let skip = self.skip;
-        if 0 < skip {
-            let used = if s.len() < skip { s.len() } else { skip };
-            let next = Standing {
-                totals,
-                skip: skip - used,
-            };
-            return Taken { next, used };
-        }
-        let Fixed::Value { value, next: _ } = wire::read_fixed4(s, 0) else {
-            return Taken {
-                next: self,
-                used: 0,
-            };
-        };
-        let length = value as usize;
-        if LONGEST < length {
-            let more = totals.add_long();
-            let next = Standing {
-                totals: more,
-                skip: length,
-            };
-            return Taken { next, used: LENGTH };
-        }
-        let end = LENGTH + length;
-        if s.len() < end {
-            return Taken {
-                next: self,
-                used: 0,
-            };
-        }
-        let more = totals.add(&s[LENGTH..end]);
-        let next = Standing {
-            totals: more,
-            skip: 0,
-        };
-        Taken { next, used: end }
-    }
-
     // Takes all that is whole from the start of s.
+    // The sums are taken out once, lent to all that adds to them, and put back once: by value they are copied for each report.
     pub fn piece(self, s: &[u8]) -> Taken
         ensures { λ r. ⌜ (r ≡ taken self (now (s .entry))) × (r .used ≤ length (now (s .entry))) ⌝ }
     {
-        let mut current = self;
+        let totals = self.totals;
+        let mut sums = totals.sums;
+        let mut full = totals.full;
+        let mut skip = self.skip;
         let mut at: usize = 0;
         while at < s.len() {
-            let taken = current.step(&s[at..]);
-            if taken.used == 0 {
-                return Taken {
-                    next: current,
-                    used: at,
-                };
+            let step = step_in(&mut sums, &mut full, skip, &s[at..]);
+            skip = step.skip;
+            if step.used == 0 {
+                break;
             }
-            let next = taken.next;
-            current = next;
-            at += taken.used;
+            at += step.used;
         }
-        Taken {
-            next: current,
-            used: at,
-        }
+        let added = Totals { sums, full };
+        let next = Standing {
+            totals: added,
+            skip,
+        };
+        Taken { next, used: at }
     }
+}
+
+// Takes one thing from the start of s: bytes to be skipped, a report, or the length of one that is too long.
+// Nothing is taken where the report is not whole.
+fn step_in(sums: &mut [u64; PLACES], full: &mut [u64; PLACES], skip: usize, s: &[u8]) -> Step
+    requires { ⌜ Held (over (now sums) (now full)) ⌝ }
+    ensures { λ r. ⌜ stepped (over (now (sums .exit)) (now (full .exit))) r ≡ stepOf (record { totals = over (now (sums .entry)) (now (full .entry)); skip = skip }) (now (s .entry)) ⌝ }
+{
+    if 0 < skip {
+        let used = if s.len() < skip { s.len() } else { skip };
+        return Step {
+            skip: skip - used,
+            used,
+        };
+    }
+    let Fixed::Value { value, next: _ } = wire::read_fixed4(s, 0) else {
+        return Step { skip, used: 0 };
+    };
+    let length = value as usize;
+    if LONGEST < length {
+        let brought = Brought::refused(TOO_LONG);
+        brought.add_in(sums, full);
+        return Step {
+            skip: length,
+            used: LENGTH,
+        };
+    }
+    let end = LENGTH + length;
+    if s.len() < end {
+        return Step { skip, used: 0 };
+    }
+    let brought = Brought::by(&s[LENGTH..end]);
+    brought.add_in(sums, full);
+    Step { skip: 0, used: end }
 }
 
 // Moves what stands from used up to end to the start of buf; nothing where there is no such part.

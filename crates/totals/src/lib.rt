@@ -69,3 +69,11 @@ struct Brought {
     lost: u64,
     statuses: [u64; 4],
 }
+
+// What one step through a file takes.
+struct Step {
+    // How many bytes are to be skipped after it.
+    skip: usize,
+    // How many bytes it took.
+    used: usize,
+}
