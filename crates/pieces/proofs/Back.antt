@@ -31,7 +31,7 @@ use Rattle.pieces.proofs.Prefix.{ends-short}
 use Rattle.pieces.proofs.Staying.{octets-none}
 use Rattle.pieces.proofs.Steps.{size-most}
 
-module _ (n stage left last above : ℕ) (ns held : List ℕ) (h : length ns ≤ 25) (l : length held ≤ 24) (o : Octets held) where
+module _ (n stage left last above : ℕ) (ns held : List ℕ) (h : length ns ≤ 25) where
   abbrev front : List ℕ
   front = n ∷ stage ∷ left ∷ last ∷ above ∷ length ns ∷ length held ∷ []
 
@@ -42,33 +42,34 @@ module _ (n stage left last above : ℕ) (ns held : List ℕ) (h : length ns ≤
   unfolding bodyAs
   parts = refl
 
-  numbers-back : numbersIn w ≡ padded 25 ns
+  pub numbers-back : numbersIn w ≡ padded 25 ns
   numbers-back =
       ext-getD 0 (numbersIn w) (padded 25 ns) (numbers-long w ∙ sym (padded-long 25 ns h)) (λ i g.
       let k : i < 25 = omega (arith, numbers-long w) in
       number-at w i k ∙ ap (λ (x : List ℕ). getD x (7 + i) 0) parts ∙ getD-append-add front (padded 25 ns ++ padded 24 held) i 0
       ∙ List·getD-append (padded 25 ns) (padded 24 held) 0 i (omega (arith, padded-long 25 ns h)))
 
-  octet : (xs : List ℕ) (k i : ℕ) → Octets xs → getD (xs ++ replicate k 0) i 0 < 256
-  octet [] k i q = rw (zeros k i) (omega arith)
-  octet (x ∷ xs) k zero q = q zero
-  octet (x ∷ xs) k (suc i) q = octet xs k i (λ j. q (suc j))
+  module _ (l : length held ≤ 24) (o : Octets held) where
+    octet : (xs : List ℕ) (k i : ℕ) → Octets xs → getD (xs ++ replicate k 0) i 0 < 256
+    octet [] k i q = rw (zeros k i) (omega arith)
+    octet (x ∷ xs) k zero q = q zero
+    octet (x ∷ xs) k (suc i) q = octet xs k i (λ j. q (suc j))
 
-  held-back : heldIn w ≡ padded 24 held
-  held-back =
-      let f : length (front ++ padded 25 ns) ≡ 32 = length-append front (padded 25 ns) ∙ ap (λ (x : ℕ). 7 + x) (padded-long 25 ns h) in
-      ext-getD 0 (heldIn w) (padded 24 held) (held-long w ∙ sym (padded-long 24 held l)) (λ i g.
-      let k : i < 24 = omega (arith, held-long w) in
-      let e : getD w (32 + i) 0 ≡ getD (padded 24 held) i 0 =
-      ap (λ (x : List ℕ). getD x (32 + i) 0) (parts ∙ sym (append-assoc front (padded 25 ns) (padded 24 held))) ∙ ap (λ (x : ℕ). getD ((front ++ padded 25 ns) ++ padded 24 held) (x + i) 0) (sym f) ∙ getD-append-add (front ++ padded 25 ns) (padded 24 held) i 0 in
-      byte-at w i k ∙ ap (λ (x : ℕ). x % 256) e ∙ mod-eq-of-lt (octet held (24 - length held) i o))
+    held-back : heldIn w ≡ padded 24 held
+    held-back =
+        let f : length (front ++ padded 25 ns) ≡ 32 = length-append front (padded 25 ns) ∙ ap (λ (x : ℕ). 7 + x) (padded-long 25 ns h) in
+        ext-getD 0 (heldIn w) (padded 24 held) (held-long w ∙ sym (padded-long 24 held l)) (λ i g.
+        let k : i < 24 = omega (arith, held-long w) in
+        let e : getD w (32 + i) 0 ≡ getD (padded 24 held) i 0 =
+        ap (λ (x : List ℕ). getD x (32 + i) 0) (parts ∙ sym (append-assoc front (padded 25 ns) (padded 24 held))) ∙ ap (λ (x : ℕ). getD ((front ++ padded 25 ns) ++ padded 24 held) (x + i) 0) (sym f) ∙ getD-append-add (front ++ padded 25 ns) (padded 24 held) i 0 in
+        byte-at w i k ∙ ap (λ (x : ℕ). x % 256) e ∙ mod-eq-of-lt (octet held (24 - length held) i o))
 
-  pub state-back : stateOf w ≡ stateAs stage left last above ns held
-  unfolding bodyAs
-  state-back =
-      ap₂ (stateAs stage left last above)
-      (ap (take (length ns)) numbers-back ∙ take-at ns (replicate (25 - length ns) 0) (length ns) refl)
-      (ap (take (length held)) held-back ∙ take-at held (replicate (24 - length held) 0) (length held) refl)
+    pub state-back : stateOf w ≡ stateAs stage left last above ns held
+    unfolding bodyAs
+    state-back =
+        ap₂ (stateAs stage left last above)
+        (ap (take (length ns)) numbers-back ∙ take-at ns (replicate (25 - length ns) 0) (length ns) refl)
+        (ap (take (length held)) held-back ∙ take-at held (replicate (24 - length held) 0) (length held) refl)
 
 -- ---- states
 

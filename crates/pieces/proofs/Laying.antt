@@ -118,7 +118,7 @@ zeros zero i = refl
 zeros (suc k) zero = refl
 zeros (suc k) (suc i) = zeros k i
 
-padded-at : (xs : List ℕ) (k i : ℕ) → getD (xs ++ replicate k 0) i 0 ≡ getD xs i 0
+pub padded-at : (xs : List ℕ) (k i : ℕ) → getD (xs ++ replicate k 0) i 0 ≡ getD xs i 0
 padded-at [] k i = zeros k i
 padded-at (x ∷ xs) k zero = refl
 padded-at (x ∷ xs) k (suc i) = padded-at xs k i

@@ -17,6 +17,7 @@ pub mod Calling
 pub mod Combining
 pub mod Staying
 pub mod Back
+pub mod Showing
 pub mod Handed
 pub mod Only
 pub mod Passing

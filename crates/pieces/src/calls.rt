@@ -3,8 +3,8 @@ ghost use mathlib.Core.Path.{_≡_};
 ghost use mathlib.Core.List.{List, _∷_};
 ghost use Prim.Native.Nat.{ℕ, _≤_};
 ghost use lib.ListN.{length};
-ghost use Rattle.uncut.specs.State.{start, standing, headerAt, reportAt, atEnd};
-ghost use Rattle.pieces.specs.Record.{standIn, stateIn, profileOf, bodyOf};
+ghost use Rattle.uncut.specs.State.{start, standing, reportAt, atEnd};
+ghost use Rattle.pieces.specs.Record.{standIn, stateIn, profileOf, bodyOf, wordsOf};
 ghost use Rattle.pieces.specs.Calls.{refusedReport, wholeAt, openRefusal, openAfter, answerOf, refusedAs, takeAnswer, takeAfter, takeBytes, endAnswer, endAfter};
 use crate::ACCEPTED;
 use crate::AT_PROFILE;
@@ -13,16 +13,16 @@ use crate::REFUSED;
 use crate::Taken;
 use crate::WORDS;
 use crate::fitness::consistent;
+use crate::header::header_in;
 use crate::rest::taken_in;
 use crate::words::come;
 use crate::words::loaded;
 use crate::words::store;
 use entries::Profile;
 use entries::record_size;
-use report::Header;
+use report::MOST_NUMBERS;
 use report::Report;
 use report::empty_header;
-use report::header_of;
 
 // The profile that a word names; a word that names none is judged before.
 fn profile_of(word: u64) -> Profile
@@ -80,27 +80,17 @@ fn whole_at(s: Marks) -> u64
     }
 }
 
-// The header once it is whole, the empty one before and beside a refusal.
-fn header_at(s: Marks, state: &[u64; WORDS]) -> Header
-    requires { ⌜ s .count ≤ 25 ⌝ }
-    ensures { λ r. ⌜ r ≡ headerAt (stateIn (standIn s (now (state .entry)))) ⌝ }
-{
-    if whole_at(s) == 0 {
-        return empty_header();
-    }
-    header_of(come(state, s.count))
-}
-
-// The refusal that stands and the empty header, or 0 and the header once it is whole.
+// The refusal that stands and the empty header, or 0 and the header once it is whole, read from the words that say so.
 fn report_at(s: Marks, state: &[u64; WORDS]) -> Report
     requires { ⌜ s .count ≤ 25 ⌝ }
-    ensures { λ r. ⌜ r ≡ reportAt (stateIn (standIn s (now (state .entry)))) ⌝ }
+    ensures { λ r. ⌜ ((p : Profile) (w : List ℕ) → now (state .entry) ≡ wordsOf p (stateIn (standIn s w)) → r ≡ reportAt (stateIn (standIn s w))) ⌝ }
 {
-    let header = header_at(s, state);
-    Report {
-        refusal: standing_at(s),
-        header,
+    let refusal = standing_at(s);
+    if whole_at(s) == 0 {
+        return refused(refusal);
     }
+    let header = header_in(come(state, MOST_NUMBERS), s.count);
+    Report { refusal, header }
 }
 
 // What a call answers that takes nothing.
@@ -117,17 +107,29 @@ fn nothing(refusal: u64) -> Taken
     }
 }
 
-// What a call answers.
+// What a call answers, its header read from the words that say where the report stands.
 fn answer(s: Marks, state: &[u64; WORDS], taken: usize, records: usize) -> Taken
     requires { ⌜ s .count ≤ 25 ⌝ }
-    ensures { λ r. ⌜ r ≡ answerOf (stateIn (standIn s (now (state .entry)))) taken records ⌝ }
+    ensures { λ r. ⌜ ((p : Profile) (w : List ℕ) → now (state .entry) ≡ wordsOf p (stateIn (standIn s w)) → r ≡ answerOf (stateIn (standIn s w)) taken records) ⌝ }
 {
-    let header = header_at(s, state);
+    let result = standing_at(s);
+    let whole = whole_at(s);
+    if whole == 0 {
+        let none = empty_header();
+        return Taken {
+            result,
+            taken,
+            records,
+            whole,
+            header: none,
+        };
+    }
+    let header = header_in(come(state, MOST_NUMBERS), s.count);
     Taken {
-        result: standing_at(s),
+        result,
         taken,
         records,
-        whole: whole_at(s),
+        whole,
         header,
     }
 }
@@ -200,9 +202,8 @@ pub fn take(state: &mut [u64; WORDS], part: &[u8], out: &mut [u8]) -> Taken
     }
     let moved = taken_in(profile, from, state, part, out);
     let next = moved.now;
-    let told = answer(next, state, moved.taken, moved.records);
     store(state, profile, next);
-    told
+    answer(next, state, moved.taken, moved.records)
 }
 
 // The caller says the end: the report is accepted, or the refusal that it brings stands from then on.
@@ -215,7 +216,6 @@ pub fn end(state: &mut [u64; WORDS]) -> Report
     }
     let profile = profile_of(state[AT_PROFILE]);
     let next = ended(from);
-    let told = report_at(next, state);
     store(state, profile, next);
-    told
+    report_at(next, state)
 }

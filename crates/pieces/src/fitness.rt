@@ -14,14 +14,12 @@ use entries::MOST_ENTRIES;
 use entries::Profile;
 use entries::record_size;
 use report::MOST_NUMBERS;
+use report::layout::AT_METRICS;
 use report::most_metrics;
 use report::number_at;
 use report::wanted;
 use wire::LARGEST;
 use wire::Number;
-
-// The metric count stands here among the numbers.
-const AT_METRICS: usize = 7;
 
 // Whether the numbers obey 5 and no more metrics are counted than the profile has.
 fn numbers_fit(profile: Profile, numbers: &[u64]) -> bool

@@ -4,6 +4,7 @@
 mod calls;
 mod fields;
 mod fitness;
+mod header;
 mod records;
 mod rest;
 mod words;

@@ -24,8 +24,8 @@ use Rattle.report.proofs.judging.wanted.Reads as wanted
 use Rattle.report.proofs.judging.wanted.Kinds as wanted-kinds
 use Rattle.report.proofs.judging.number_at.Reads as number-at
 use Rattle.report.proofs.judging.number_at.Kinds as number-at-kinds
-use Rattle.report.proofs.headers.header_of.Reads as header-of
-use Rattle.report.proofs.headers.header_of.Kinds as header-of-kinds
+use Rattle.report.proofs.headers.average.Reads as average
+use Rattle.report.proofs.headers.average.Kinds as average-kinds
 use Rattle.report.proofs.headers.empty_header.Reads as empty-header
 use Rattle.report.proofs.headers.empty_header.Kinds as empty-header-kinds
 
@@ -58,8 +58,8 @@ wanted-one κs given x y s t p q = p ∙ sym q
 pub number-at-one : OneAnswer 1 number-at-kinds.ps number-at-kinds.r number-at.Post
 number-at-one κs given x y s t p q = p ∙ sym q
 
-pub header-of-one : OneAnswer 1 header-of-kinds.ps header-of-kinds.r header-of.Post
-header-of-one κs given x y s t p q = p ∙ sym q
+pub average-one : OneAnswer 0 average-kinds.ps average-kinds.r average.Post
+average-one κs given x y s t p q = p ∙ sym q
 
 pub empty-header-one : OneAnswer 0 empty-header-kinds.ps empty-header-kinds.r empty-header.Post
 empty-header-one κs given x y s t p q = p ∙ sym q

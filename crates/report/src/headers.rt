@@ -36,7 +36,7 @@ fn stored(n: i64) -> u64
 }
 
 // The signed average that a number stores.
-fn average(v: u64) -> i64
+pub fn average(v: u64) -> i64
     ensures { λ r. ⌜ r ≡ averageOf v ⌝ }
 {
     let half = (v / 2) as i64;
@@ -73,7 +73,7 @@ fn metrics_of(numbers: &[u64], part: usize) -> [u64; METRIC_PLACES]
 }
 
 // The header that the numbers are.
-pub fn header_of(numbers: &[u64]) -> Header
+pub(crate) fn header_of(numbers: &[u64]) -> Header
     ensures { λ r. ⌜ r ≡ headerOf (now (numbers .entry)) ⌝ }
 {
     let kinds = metrics_of(numbers, TYPE);

@@ -7,7 +7,7 @@ ghost use Rattle.report.specs.Refusals.{writtenRefusal};
 mod head;
 mod headers;
 mod judging;
-mod layout;
+pub mod layout;
 mod profiles;
 mod reader;
 mod writer;
@@ -17,8 +17,8 @@ use entries::Profile;
 pub use entries::Status;
 pub use entries::read_entry;
 pub use head::read_head;
+pub use headers::average;
 pub use headers::empty_header;
-pub use headers::header_of;
 pub use judging::judge_field;
 pub use judging::most_metrics;
 pub use judging::number_at;
@@ -28,7 +28,7 @@ pub use reader::read_report;
 pub use writer::write_report;
 
 // A header has places for so many metrics, whatever its profile.
-const METRIC_PLACES: usize = 8;
+pub const METRIC_PLACES: usize = 8;
 
 // The numbers that every header has, a type and a value for each metric, and the entry count.
 pub const MOST_NUMBERS: usize = layout::FIXED + 2 * METRIC_PLACES + 1;

@@ -46,19 +46,21 @@ ended-requires c κs = search needs
 
 store-requires : tie.Need-store-requires
 store-requires c κs =
-    let z = sits-loaded (now (c .before .before .before .before .before .before .before .before .before .before .before .before .args .state)) (c .before .before .before .before .before .before .before .before .before .before .loaded .result) (c .before .before .before .before .profile-of .result) (c .before .before .before .before .before .before .before .before .before .before .loaded .ensures) (c .before .before .before .before .profile-of .ensures) (ok (c .before .before .before .before .before .before)) in
-    (omega (arith, c .before .before .before .ended .ensures .1 .0, z .count), omega (arith, c .before .before .before .ended .ensures .1 .1, z .carried))
+    let z = sits-loaded (now (c .before .before .before .before .before .before .before .before .before .before .args .state)) (c .before .before .before .before .before .before .before .before .loaded .result) (c .before .before .profile-of .result) (c .before .before .before .before .before .before .before .before .loaded .ensures) (c .before .before .profile-of .ensures) (ok (c .before .before .before .before)) in
+    (omega (arith, c .before .ended .ensures .1 .0, z .count), omega (arith, c .before .ended .ensures .1 .1, z .carried))
 
 report-at-requires : tie.Need-report-at-requires
 report-at-requires c κs =
-    let z = sits-loaded (now (c .before .before .before .before .before .before .before .before .before .before .args .state)) (c .before .before .before .before .before .before .before .before .loaded .result) (c .before .before .profile-of .result) (c .before .before .before .before .before .before .before .before .loaded .ensures) (c .before .before .profile-of .ensures) (ok (c .before .before .before .before)) in
-    omega (arith, c .before .ended .ensures .1 .0, z .count)
+    let z = sits-loaded (now (c .before .before .before .before .before .before .before .before .before .before .before .before .args .state)) (c .before .before .before .before .before .before .before .before .before .before .loaded .result) (c .before .before .before .before .profile-of .result) (c .before .before .before .before .before .before .before .before .before .before .loaded .ensures) (c .before .before .before .before .profile-of .ensures) (ok (c .before .before .before .before .before .before)) in
+    omega (arith, c .before .before .before .ended .ensures .1 .0, z .count)
 
 returns-2 : tie.Need-returns-2
 returns-2 c =
     let w = now (c .before .before .before .before .before .before .before .before .before .before .before .before .before .args .state) in
     let e = c .before .before .before .before .ended in
-    end-said w (ok (c .before .before .before .before .before .before .before)) (stateIn (standIn (e .result) w)) _ _ (e .ensures .0 w ∙ ap (λ (m : Marks). atEnd (stateIn (standIn m w))) (c .before .before .before .before .before .before .before .before .before .before .before .loaded .ensures)) (c .before .before .report-at .ensures) (c .store .ensures ∙ ap (λ (p : Profile). wordsOf p (stateIn (standIn (e .result) w))) (c .before .before .before .before .before .profile-of .ensures))
+    let p = c .before .before .before .before .before .profile-of in
+    let stored = c .before .before .store .ensures in
+    end-said w (ok (c .before .before .before .before .before .before .before)) (stateIn (standIn (e .result) w)) _ _ (e .ensures .0 w ∙ ap (λ (m : Marks). atEnd (stateIn (standIn m w))) (c .before .before .before .before .before .before .before .before .before .before .before .loaded .ensures)) (c .report-at .ensures (p .result) w stored) (stored ∙ ap (λ (q : Profile). wordsOf q (stateIn (standIn (e .result) w))) (p .ensures))
 
 pub end-spec : {M : Type 1} → statement M
 end-spec =
@@ -72,6 +74,6 @@ end-spec =
     element-copy-out-profile-of
     profile-of-requires
     ended-requires
-    report-at-requires
     store-requires
+    report-at-requires
     returns-2)

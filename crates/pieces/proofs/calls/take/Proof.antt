@@ -60,10 +60,10 @@ taken-in-requires c κs =
     (sits-loaded (now (c .before .before .before .before .before .before .before .before .before .before .before .before .before .before .args .state)) (c .before .before .before .before .before .before .before .before .before .before .loaded .result) (c .before .before .before .before .profile-of .result) (c .before .before .before .before .before .before .before .before .before .before .loaded .ensures) (c .before .before .before .before .profile-of .ensures) (ok (c .before .before .before .before .before .before)), rw (c .before .before .before .record-size .ensures) at (c .before .before .if2 .left))
 
 store-requires : tie.Need-store-requires
-store-requires c κs = (c .before .before .before .before .before .before .taken-in .ensures .0 .sits .count, c .before .before .before .before .before .before .taken-in .ensures .0 .sits .carried)
+store-requires c κs = (c .before .before .before .before .taken-in .ensures .0 .sits .count, c .before .before .before .before .taken-in .ensures .0 .sits .carried)
 
 answer-requires : tie.Need-answer-requires
-answer-requires c κs = c .before .before .before .before .taken-in .ensures .0 .sits .count
+answer-requires c κs = c .before .before .before .before .before .before .taken-in .ensures .0 .sits .count
 
 same-length : tie.Need-same-length
 same-length c = search needs
@@ -74,8 +74,10 @@ returns-3 c =
     let p = c .before .before .before .before .before .before .before .before .before .before .before .before .profile-of .ensures in
     let l = c .before .before .before .before .before .before .before .before .before .before .before .before .before .before .before .before .before .before .loaded .ensures in
     let t = c .before .before .before .before .before .before .before .taken-in in
-    let r = c .before .before .before .before .before .before .before .before .before .before .before .record-size .ensures ∙ ap recordSize (c .before .before .before .before .before .before .before .before .before .before .before .before .profile-of .ensures) in
-    take-served (now (a .state)) (ok (c .before .before .before .before .before .before .before .before .before .before .before .before .before .before)) (now (a .part)) (now (a .out)) (rw r at (c .before .before .before .before .before .before .before .before .before .before .if2 .left)) (movedIn (t .result) (t .last .1 .1 .0)) (t .last .1 .1 .1 .1 .0) _ _ (rw (p, l) at (t .ensures .0)) (rw (p, l) at (t .ensures .1)) (c .store .ensures ∙ ap (λ (x : Profile). wordsOf x (stateIn (standIn (t .result .now) (t .last .1 .1 .0)))) p) (c .before .before .answer .ensures)
+    let w = t .last .1 .1 .0 in
+    let r = c .before .before .before .before .before .before .before .before .before .before .before .record-size .ensures ∙ ap recordSize p in
+    let stored = c .before .before .store .ensures in
+    take-served (now (a .state)) (ok (c .before .before .before .before .before .before .before .before .before .before .before .before .before .before)) (now (a .part)) (now (a .out)) (rw r at (c .before .before .before .before .before .before .before .before .before .before .if2 .left)) (movedIn (t .result) w) (t .last .1 .1 .1 .1 .0) _ _ (rw (p, l) at (t .ensures .0)) (rw (p, l) at (t .ensures .1)) (stored ∙ ap (λ (x : Profile). wordsOf x (stateIn (standIn (t .result .now) w))) p) (c .answer .ensures (c .before .before .before .before .before .before .before .before .before .before .before .before .profile-of .result) w stored)
 
 pub take-spec : {M : Type 1} → statement M
 take-spec =
@@ -92,7 +94,7 @@ take-spec =
     nothing-requires-2
     returns-2
     taken-in-requires
-    answer-requires
     store-requires
+    answer-requires
     same-length
     returns-3)
