@@ -1,24 +1,20 @@
 -- The words that say where a report stands say it back, and they pass where it is fit.
 -- Assumes nothing.
-use Prim.Native.Nat.{ℕ, zero, suc, _+_, _-_, _*_, _/_, _%_, _≤_, _<_, zero-le}
+use Prim.Native.Nat.{ℕ, zero, suc, _+_, _-_, _%_, _≤_, _<_, zero-le}
 use mathlib.Core.Path.{_≡_, refl, sym, ap, ap₂, _∙_}
 use mathlib.Core.Bool.{Bool, true, false, _&&_}
 use mathlib.Core.List.{List, [], _∷_, _++_, append-assoc}
 use native.Mathlib.Nat.{mod-eq-of-lt, mod-lt}
 use native.Mathlib.Omega.{arith}
-use borrow.Author.Tests.{le-leb, leb-true, ne-eqb, eqb-true}
+use borrow.Author.Tests.{le-leb, ne-eqb, eqb-true}
 use lib.Dec.{leb, eqb}
-use lib.ListN.{length, getD, take, drop, replicate, length-append, List·getD-append, List·getD-eq-default}
-use lib.Seq.{take-at, take-all, ext-getD, getD-append-add, getD-take}
+use lib.ListN.{length, getD, take, replicate, length-append, List·getD-append, List·getD-eq-default}
+use lib.Seq.{take-at, ext-getD, getD-append-add}
 use Rattle.wire.specs.Bytes.{pick, Octets}
-use Rattle.wire.specs.Numbers.{readNumber}
 use Rattle.wire.proofs.Lengths.{split}
-use Rattle.wire.specs.declared.Number.the-variants.{Ends}
-use Rattle.entries.specs.Profiles.{recordSize, numberOf, ofProfile}
+use Rattle.entries.specs.Profiles.{numberOf}
 use Rattle.entries.specs.declared.Profile.{Profile}
 use Rattle.entries.specs.declared.Profile.the-variants.{One, Two}
-use Rattle.report.specs.Header.{wantedOf}
-use Rattle.report.proofs.Following.{wanted-most}
 use Rattle.uncut.specs.State.{State, Numbers, Records, Counting, Refused, Accepted}
 use Rattle.pieces.specs.Record.{profileOf, profileIn, numbersIn, heldIn, standAt, stateAs, stateIn, stateOf, padded, bodyAs, bodyOf, wordsOf}
 use Rattle.pieces.specs.Fitness.{fit, standFit, consistent}

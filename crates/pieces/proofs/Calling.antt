@@ -1,22 +1,21 @@
 -- The calls: 1 and 9 come first, and what the bytes of a part do is what the call answers and leaves.
 -- Assumes nothing.
-use Prim.Native.Nat.{ℕ, zero, suc, _*_, _/_, _≤_, _<_}
+use Prim.Native.Nat.{ℕ, _/_, _≤_, _<_}
 use mathlib.Core.Path.{_≡_, refl, sym, ap, ap₂, _∙_}
 use mathlib.Core.Bool.{Bool, true, false}
 use mathlib.Core.List.{List}
 use native.Mathlib.Nat.{mul-div-cancel-left}
-use native.Mathlib.Omega.{arith}
 use borrow.Author.Tests.{le-leb, lt-leb}
 use lib.ListN.{length, getD, take}
 use lib.Seq.{length-take-le}
-use Rattle.wire.specs.Bytes.{pick, splice}
+use Rattle.wire.specs.Bytes.{splice}
 use Rattle.entries.specs.Profiles.{recordSize, ofProfile}
 use Rattle.entries.specs.declared.Profile.{Profile}
 use Rattle.report.specs.declared.Report.{Report}
 use Rattle.uncut.specs.State.{State, reportAt, atEnd}
 use Rattle.uncut.specs.Step.{after, delivered}
 use Rattle.uncut.specs.Cutting.{taking}
-use Rattle.pieces.specs.Record.{Moved, profileOf, profileIn, marksAt, standIn, stateIn, stateOf, wordsOf}
+use Rattle.pieces.specs.Record.{Moved, profileIn, marksAt, standIn, stateIn, stateOf, wordsOf}
 use Rattle.pieces.specs.declared.Marks.{Marks}
 use Rattle.pieces.specs.Fitness.{standFit, consistent}
 use Rattle.pieces.specs.Serving.{Sits, Served}

@@ -1,12 +1,12 @@
 -- How a refusal comes to stand: it stood, a field brought it, or a byte too many came.
 -- Assumes nothing.
-use Prim.Native.Nat.{ℕ, zero, suc, _+_, _≤_, _<_}
+use Prim.Native.Nat.{ℕ, zero, suc}
 use mathlib.Core.Path.{_≡_, refl, sym, ap, _∙_}
 use mathlib.Core.Logic.{_⊎_, inl, inr, ⊎-elim}
 use mathlib.Core.Bool.{Bool, true, false}
 use mathlib.Core.List.{List, [], _∷_, _++_}
 use native.Mathlib.Omega.{arith}
-use borrow.Author.Tests.{ne-eqb, eqb-true, eqb-false}
+use borrow.Author.Tests.{ne-eqb}
 use lib.Dec.{eqb, leb, ltb}
 use lib.ListN.{length}
 use Rattle.wire.specs.Bytes.{pick}
@@ -18,9 +18,9 @@ use Rattle.entries.specs.Profiles.{recordSize}
 use Rattle.entries.specs.Entries.{entryOf, recordsGood}
 use Rattle.entries.specs.declared.Profile.{Profile}
 use Rattle.report.specs.Header.{judgeField, wantedOf, countOf}
-use Rattle.uncut.specs.State.{State, Numbers, Records, Counting, Refused, Accepted, standing}
+use Rattle.uncut.specs.State.{State, Numbers, Records, Counting, Refused, Accepted}
 use Rattle.uncut.specs.Step.{groupIn, aboveIn, afterBad, withNumber, fieldGrown, recordJudged, recordGrown, step, after}
-use Rattle.pieces.specs.Exactly.{Faulty, TooMany, AllCame}
+use Rattle.pieces.specs.Exactly.{Faulty, TooMany}
 use Rattle.uncut.proofs.Cuts.{after-append}
 
 -- the refusal of a state that has one

@@ -1,18 +1,16 @@
 -- The last step of a call: the start of the next record, the bytes after a bad one, a byte too many; then no further byte is taken.
 -- Assumes nothing.
-use Prim.Native.Nat.{ℕ, zero, suc, _+_, _-_, _*_, _≤_, _<_, zero-le, min}
-use mathlib.Core.Path.{_≡_, refl, sym, ap, ap₂, _∙_}
-use mathlib.Core.Logic.{_⊎_, inl, inr, ⊎-elim}
+use Prim.Native.Nat.{ℕ, zero, suc, _+_, _-_, _≤_, _<_, min}
+use mathlib.Core.Path.{_≡_, refl, sym, ap, _∙_}
+use mathlib.Core.Logic.{⊎-elim}
 use mathlib.Core.Bool.{Bool, true, false}
 use mathlib.Core.List.{List, [], _∷_, _++_}
-use native.Mathlib.Nat.{mul-zero}
 use native.Mathlib.Omega.{arith}
 use borrow.Author.Tests.{lt-ltb, ne-eqb}
-use lib.Dec.{eqb, ltb}
+use lib.Dec.{eqb}
 use lib.ListN.{length, take, drop}
 use lib.Seq.{length-take-le, take-all, drop-length}
 use Rattle.wire.specs.Bytes.{pick}
-use Rattle.wire.proofs.Lengths.{split}
 use Rattle.entries.specs.Profiles.{recordSize}
 use Rattle.entries.specs.declared.Profile.{Profile}
 use Rattle.entries.specs.declared.Profile.the-variants.{One, Two}
@@ -21,11 +19,11 @@ use Rattle.uncut.specs.Step.{step, given, after, delivered}
 use Rattle.uncut.specs.Cutting.{stops, taking}
 use Rattle.pieces.specs.Record.{Stand, Moved, stateAs, stateIn}
 use Rattle.pieces.specs.Reading.{still}
-use Rattle.pieces.specs.Serving.{Ready, Sits, Served, Short}
+use Rattle.pieces.specs.Serving.{Sits, Served, Short}
 use Rattle.pieces.proofs.Going.{served-chunk, served-still}
 use Rattle.pieces.proofs.Keeping.{ready-after}
 use Rattle.pieces.proofs.Filling.{Rowed, rowed-short}
-use Rattle.pieces.proofs.Stages.{at-numbers, at-records, at-counting, at-refused, at-accepted}
+use Rattle.pieces.proofs.Stages.{at-records, at-counting, at-refused}
 
 empty : (xs : List ℕ) → length xs ≡ 0 → xs ≡ []
 empty [] e = refl

@@ -1,6 +1,6 @@
 -- The rows of the refusal table: from how a refusal comes to stand, and from what passes.
 -- Assumes nothing.
-use Prim.Native.Nat.{ℕ, zero, suc, _+_, _≤_, _<_}
+use Prim.Native.Nat.{ℕ, zero, suc, _≤_, _<_}
 use mathlib.Core.Path.{_≡_, refl, sym, ap, _∙_}
 use mathlib.Core.Logic.{_↔_, _⊎_, inl, inr, ⊎-elim}
 use mathlib.Core.Bool.{Bool, true, false}
@@ -8,22 +8,21 @@ use mathlib.Core.List.{List, [], _∷_}
 use native.Mathlib.Omega.{arith}
 use borrow.Author.Tests.{eqb-true, eqb-false, le-leb, lt-leb}
 use lib.Dec.{eqb}
-use lib.ListN.{length}
 use Rattle.wire.specs.Bytes.{pick}
 use Rattle.wire.specs.Exactly.{OneOf}
 use Rattle.wire.proofs.Lengths.{split}
-use Rattle.entries.specs.Profiles.{recordSize, numberOf, Other}
+use Rattle.entries.specs.Profiles.{recordSize, Other}
 use Rattle.entries.specs.declared.Profile.{Profile}
 use Rattle.entries.specs.declared.Profile.the-variants.{One, Two}
-use Rattle.report.specs.Header.{judge, judgeField}
+use Rattle.report.specs.Header.{judgeField}
 use Rattle.report.proofs.Places.{place-judged}
 use Rattle.uncut.specs.State.{State, Numbers, Records, Counting, Refused, Accepted, standing, atEnd}
 use Rattle.uncut.specs.Step.{after}
 use Rattle.pieces.specs.Record.{profileIn, stateOf}
 use Rattle.pieces.specs.Fitness.{fit, consistent}
 use Rattle.pieces.specs.Calls.{openRefusal, takeRefusal, takenOf, stateAfter, takeAnswer, endAnswer}
-use Rattle.pieces.specs.Exactly.{Consistent, OpenRows, Faulty, TooMany, AllCame, Serves, TakeRows, Missing, EndRows, Exactly}
-use Rattle.pieces.proofs.Coming.{Came, came, stood, faulty, too-many}
+use Rattle.pieces.specs.Exactly.{Consistent, OpenRows, Faulty, TooMany, AllCame, TakeRows, Missing, EndRows, Exactly}
+use Rattle.pieces.proofs.Coming.{came, stood, faulty, too-many}
 use Rattle.pieces.proofs.Passing.{fit-fact, consistent-exactly}
 use Rattle.pieces.proofs.Staying.{kept-end}
 use Rattle.pieces.proofs.Back.{consistent-kept}

@@ -1,15 +1,14 @@
 -- A field that is taken as one: bytes that leave it unfinished, and bytes that make it whole.
 -- Assumes nothing.
-use Prim.Native.Nat.{ℕ, zero, suc, _+_, _-_, _*_, _/_, _≤_, _<_, zero-le}
-use mathlib.Core.Path.{_≡_, refl, sym, ap, ap₂, _∙_}
-use mathlib.Core.Bool.{Bool, true, false}
+use Prim.Native.Nat.{ℕ, suc, _+_, _-_}
+use mathlib.Core.Path.{_≡_, refl, sym, ap, _∙_}
+use mathlib.Core.Bool.{Bool}
 use mathlib.Core.List.{List, [], _∷_, _++_, append-nil}
 use native.Mathlib.Omega.{arith}
 use lib.Dec.{eqb}
-use lib.ListN.{length, take, drop, length-append}
+use lib.ListN.{length, length-append}
 use lib.Seq.{append-snoc}
 use Rattle.wire.specs.Bytes.{pick}
-use Rattle.wire.specs.Fields.{formed}
 use Rattle.wire.specs.Numbers.{readNumber}
 use Rattle.wire.specs.declared.Number.{Number}
 use Rattle.wire.specs.declared.Number.the-variants.{Value, Ends}
@@ -17,7 +16,7 @@ use Rattle.entries.specs.declared.Profile.{Profile}
 use Rattle.report.specs.Header.{judgeField}
 use Rattle.uncut.specs.State.{State, Numbers, Refused}
 use Rattle.uncut.specs.Step.{withNumber, fieldGrown, step, given, after, delivered}
-use Rattle.uncut.specs.Cutting.{stops, taking}
+use Rattle.uncut.specs.Cutting.{taking}
 use Rattle.uncut.proofs.Grown.{never-value, still-there, last-byte}
 use Rattle.pieces.proofs.Going.{Chunk, chunk-none}
 

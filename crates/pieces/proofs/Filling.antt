@@ -1,28 +1,24 @@
 -- A record that is taken as one, and records in a row: bytes that leave it unfinished, and bytes that make it whole.
 -- Assumes nothing.
-use Prim.Native.Nat.{ℕ, zero, suc, _+_, _-_, _*_, _/_, _≤_, _<_, zero-le}
-use mathlib.Core.Path.{_≡_, refl, sym, ap, ap₂, _∙_}
+use Prim.Native.Nat.{ℕ, suc, _+_, _-_, _≤_, _<_}
+use mathlib.Core.Path.{_≡_, refl, ap, _∙_}
 use mathlib.Core.Bool.{Bool, true, false}
 use mathlib.Core.List.{List, [], _∷_, _++_, append-nil}
-use native.Mathlib.Nat.{mul-suc, mul-zero}
 use native.Mathlib.Omega.{arith}
 use borrow.Author.Tests.{lt-ltb, le-ltb}
 use lib.Dec.{ltb}
-use lib.ListN.{length, take, drop, length-append, length-drop, take-append-drop}
-use lib.Seq.{append-snoc, take-all, length-take-le, take-add}
+use lib.ListN.{length, length-append}
+use lib.Seq.{append-snoc, take-all}
 use Rattle.wire.specs.Bytes.{pick}
 use Rattle.entries.specs.Profiles.{recordSize}
 use Rattle.entries.specs.Entries.{entryOf, atOrAbove, follows, recordsGood}
 use Rattle.entries.specs.declared.Profile.{Profile}
 use Rattle.entries.specs.declared.Entry.{Entry}
 use Rattle.entries.specs.declared.Entry.the-variants.{Record, Ends, Broken, OtherProfile}
-use Rattle.uncut.specs.State.{State, Records, Counting}
+use Rattle.uncut.specs.State.{State, Records}
 use Rattle.uncut.specs.Step.{groupIn, aboveIn, afterBad, recordJudged, recordGrown, recordGiven, step, given, after, delivered}
-use Rattle.uncut.specs.Cutting.{stops, taking}
+use Rattle.uncut.specs.Cutting.{taking}
 use Rattle.pieces.specs.Reading.{Key, Good, Bad, keyIn, keyOf}
-use Rattle.uncut.proofs.Cuts.{after-append, delivered-append}
-use Rattle.pieces.proofs.Going.{taking-append}
-use Rattle.uncut.proofs.Rows.{size-pos}
 
 -- ---- the key of a record is what the rule of a row says of it
 

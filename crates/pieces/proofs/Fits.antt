@@ -5,7 +5,7 @@ use mathlib.Core.Path.{_≡_, refl, sym, ap, _∙_}
 use mathlib.Core.Bool.{Bool, true, false, _&&_}
 use mathlib.Core.List.{List}
 use native.Mathlib.Omega.{arith}
-use borrow.Author.Tests.{eq-eqb, ne-eqb, le-leb, lt-leb, lt-ltb, le-ltb, leb-true, ltb-true, eqb-true}
+use borrow.Author.Tests.{ne-eqb, le-leb, lt-leb, lt-ltb, le-ltb, leb-true, ltb-true, eqb-true}
 use lib.Dec.{eqb, leb, ltb}
 use lib.ListN.{length, getD, take}
 use lib.Seq.{length-take-le}
@@ -13,16 +13,15 @@ use Rattle.wire.specs.Bytes.{pick}
 use Rattle.wire.specs.Numbers.{limit, allSmall, encodeAll, lengthOf, readNumber}
 use Rattle.wire.specs.declared.Number.{Number}
 use Rattle.wire.specs.declared.Number.the-variants.{Value, Ends}
-use Rattle.wire.specs.declared.Length.{Length}
 use Rattle.wire.specs.declared.Length.the-variants.{Bytes, TooLarge}
 use Rattle.entries.specs.Limits.{mostEntries}
-use Rattle.entries.specs.Profiles.{recordSize, mostMetrics, ofProfile}
+use Rattle.entries.specs.Profiles.{recordSize, mostMetrics}
 use Rattle.entries.specs.declared.Profile.{Profile}
 use Rattle.entries.specs.declared.Profile.the-variants.{One, Two}
 use Rattle.report.specs.Layout.{atMetrics}
 use Rattle.report.specs.Header.{wantedOf}
 use Rattle.uncut.specs.State.{State, Numbers, Records, Counting, Refused, Accepted}
-use Rattle.pieces.specs.Record.{Stand, stateAs, stateIn, standAt, profileOf, numbersIn, heldIn}
+use Rattle.pieces.specs.Record.{Stand, stateIn, standAt, profileOf}
 use Rattle.pieces.specs.Fitness.{numbersFit, isEnds, canStand, fieldFit, rowsFit, fit, standFit, consistent}
 use Rattle.pieces.specs.Serving.{Ready, Sits}
 use Rattle.pieces.proofs.Loading.{numbers-long, held-long}

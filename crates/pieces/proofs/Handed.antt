@@ -1,32 +1,28 @@
 -- Consistency is kept by every call, and the calls on words are the steps on states: so a report may be handed in anyhow.
 -- Assumes nothing.
-use Prim.Native.Nat.{ℕ, zero, suc, _+_, _-_, _*_, _/_, _≤_, _<_}
+use Prim.Native.Nat.{ℕ, zero, suc, _+_, _-_, _*_, _/_, _≤_}
 use mathlib.Core.Path.{_≡_, refl, sym, ap, ap₂, subst, _∙_}
 use mathlib.Core.Bool.{Bool, true, false}
 use mathlib.Core.List.{List, [], _∷_, _++_}
 use native.Mathlib.Nat.{mul-zero, mul-add, mul-div-cancel-left}
 use native.Mathlib.Omega.{arith}
-use borrow.Author.Tests.{le-leb, eqb-true}
-use lib.Dec.{leb, eqb, ltb}
-use lib.ListN.{length, getD, take, drop, length-append}
+use borrow.Author.Tests.{le-leb}
+use lib.Dec.{eqb, ltb}
+use lib.ListN.{length, take, drop, length-append}
 use lib.Seq.{take-at, length-take-le}
 use Rattle.wire.specs.Bytes.{pick, splice, Octets}
-use Rattle.entries.specs.Profiles.{recordSize, numberOf, ofProfile}
+use Rattle.entries.specs.Profiles.{recordSize, numberOf}
 use Rattle.entries.specs.Entries.{recordsGood}
 use Rattle.entries.specs.declared.Profile.{Profile}
 use Rattle.entries.specs.declared.Profile.the-variants.{One, Two}
-use Rattle.report.specs.Reader.{readReport}
-use Rattle.report.specs.declared.Report.{Report}
-use Rattle.uncut.specs.State.{State, Numbers, Records, Counting, Refused, Accepted, start, standing, reportAt, atEnd}
+use Rattle.uncut.specs.State.{State, Numbers, Records, Counting, Refused, Accepted, start, standing, atEnd}
 use Rattle.uncut.specs.Step.{recordGiven, step, given, after, delivered}
 use Rattle.uncut.specs.Cutting.{closed, stops, taking, Fed, over, shut, call}
-use Rattle.pieces.specs.Record.{profileIn, stateOf, wordsOf, bodyOf}
+use Rattle.pieces.specs.Record.{profileIn, stateOf, wordsOf}
 use Rattle.pieces.specs.Fitness.{consistent}
-use Rattle.pieces.specs.Calls.{unlessRefused, openRefusal, openAfter, takeRefusal, answerOf, refusedAs, takenOf, stateAfter, givenOf, takeAnswer, takeAfter, takeBytes, endAnswer, endAfter}
+use Rattle.pieces.specs.Calls.{unlessRefused, openRefusal, openAfter, takeRefusal, takenOf, stateAfter, givenOf, takeAnswer, takeAfter, takeBytes, endAnswer, endAfter}
 use Rattle.pieces.specs.Kept.{Kept}
 use Rattle.pieces.specs.Handing.{KeepsConsistent, SaidBack, Handed, over as all, shut as refused, call as handing, HandedAnyhow}
-use Rattle.uncut.specs.Whole.{goodRecords}
-use Rattle.pieces.specs.declared.Taken.{Taken}
 use Rattle.uncut.proofs.Uncut.{Sound, sound-step, whole-size}
 use Rattle.uncut.proofs.Cuts.{cut-anyhow}
 use Rattle.uncut.proofs.Rows.{size-pos}

@@ -1,6 +1,6 @@
 -- What is served stays so: a byte leaves what is carried unfinished, the metrics within their limit and the records within theirs.
 -- Assumes nothing.
-use Prim.Native.Nat.{ℕ, zero, suc, _+_, _-_, _*_, _/_, _%_, _≤_, _<_, zero-le, min}
+use Prim.Native.Nat.{ℕ, zero, suc, _+_, _-_, _*_, _≤_, _<_, zero-le}
 use mathlib.Core.Path.{_≡_, refl, sym, ap, _∙_}
 use mathlib.Core.Logic.{inl, inr}
 use mathlib.Core.Bool.{Bool, true, false}
@@ -8,7 +8,7 @@ use mathlib.Core.List.{List, [], _∷_, _++_}
 use native.Mathlib.Omega.{arith}
 use borrow.Author.Tests.{leb-true, leb-false, eqb-true, ltb-true}
 use lib.Dec.{leb, eqb, ltb}
-use lib.ListN.{length, getD, take, length-append, List·getD-append, List·getD-eq-default}
+use lib.ListN.{length, getD, length-append, List·getD-append, List·getD-eq-default}
 use lib.Seq.{getD-append-seam}
 use Rattle.wire.specs.Bytes.{pick}
 use Rattle.wire.specs.Fields.{formed}
@@ -23,7 +23,6 @@ use Rattle.entries.specs.Entries.{entryOf, recordsGood}
 use Rattle.entries.specs.declared.Profile.{Profile}
 use Rattle.report.specs.Layout.{atMetrics, fixedNumbers}
 use Rattle.report.specs.Header.{judge, judgeField, wantedOf, countOf}
-use Rattle.report.specs.Exactly.{PlaceRows}
 use Rattle.report.proofs.Places.{place-judged}
 use Rattle.uncut.specs.State.{State, Numbers, Records, Counting, Refused, Accepted}
 use Rattle.uncut.specs.Step.{groupIn, aboveIn, afterBad, withNumber, fieldGrown, recordJudged, recordGrown, step, after}

@@ -13,14 +13,12 @@ use lib.Seq.{length-take-le, take-all, take-suc-set, take-add, take-append-add, 
 use Rattle.wire.specs.Bytes.{pick}
 use Rattle.wire.proofs.Lengths.{split}
 use Rattle.wire.specs.Numbers.{readNumber}
-use Rattle.wire.specs.declared.Number.{Number}
 use Rattle.wire.specs.declared.Number.the-variants.{Value, Ends}
 use Rattle.entries.specs.declared.Profile.{Profile}
 use Rattle.report.specs.Header.{judgeField, wantedOf, countOf}
 use Rattle.report.proofs.Following.{wanted-most}
 use Rattle.uncut.specs.State.{State, Numbers, Records, Counting, Refused, Accepted}
-use Rattle.uncut.specs.Step.{withNumber, after, delivered}
-use Rattle.uncut.specs.Cutting.{taking}
+use Rattle.uncut.specs.Step.{withNumber}
 use Rattle.pieces.specs.Record.{Stand, Moved, stateAs, stateIn}
 use Rattle.pieces.specs.Reading.{movedTo}
 use Rattle.pieces.specs.Serving.{Ready, Sits, Served, Past}

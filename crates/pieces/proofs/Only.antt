@@ -1,8 +1,6 @@
 -- Only one: two results that meet the contract of a public call, as its source states it, are equal, and so are the record and the lent buffer that they leave.
 -- Assumes nothing.
-use Prim.Native.Nat.{ℕ}
 use mathlib.Core.Path.{_≡_, sym, _∙_}
-use mathlib.Core.List.{List}
 use borrow.Fn.Kinds.{Dens, resT, endedOf}
 use contract.Lifetimes.{Lfts}
 use denote.Ref.{now}

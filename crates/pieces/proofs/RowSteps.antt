@@ -1,28 +1,28 @@
 -- The records that lie whole in the part: as many as are to come and fit the buffer, up to the first bad one.
 -- Assumes nothing.
-use Prim.Native.Nat.{ℕ, zero, suc, _+_, _-_, _*_, _/_, _≤_, _<_, zero-le, min}
+use Prim.Native.Nat.{ℕ, zero, suc, _+_, _-_, _*_, _/_, _≤_, _<_, min}
 use mathlib.Core.Path.{_≡_, refl, sym, ap, ap₂, _∙_}
-use mathlib.Core.Logic.{_⊎_, inl, inr, ⊎-elim}
+use mathlib.Core.Logic.{inl, inr, ⊎-elim}
 use mathlib.Core.Bool.{Bool, true, false}
 use mathlib.Core.List.{List, [], _∷_, _++_, append-nil}
-use native.Mathlib.Nat.{mul-zero, mul-suc, mul-comm, div-mul-le-self, mul-div-cancel-left, mul-le-mul-left, lt-mul-div-succ}
+use native.Mathlib.Nat.{mul-suc, mul-comm, div-mul-le-self, mul-div-cancel-left, mul-le-mul-left, lt-mul-div-succ}
 use native.Mathlib.Omega.{arith}
 use borrow.Author.Tests.{eqb-true, eqb-false}
 use lib.Dec.{eqb}
-use lib.ListN.{length, take, drop, length-append, length-drop}
-use lib.Seq.{length-take-le, take-take, take-add, drop-drop}
-use Rattle.wire.specs.Bytes.{pick, splice}
+use lib.ListN.{length, take, drop, length-drop}
+use lib.Seq.{length-take-le, take-take, take-add}
+use Rattle.wire.specs.Bytes.{pick}
 use Rattle.wire.proofs.Lengths.{split}
 use Rattle.entries.specs.Profiles.{recordSize}
 use Rattle.entries.specs.declared.Profile.{Profile}
-use Rattle.uncut.specs.State.{State, Numbers, Records, Counting, Refused, Accepted}
-use Rattle.uncut.specs.Step.{afterBad, after, delivered}
+use Rattle.uncut.specs.State.{Numbers, Records, Counting, Refused, Accepted}
+use Rattle.uncut.specs.Step.{afterBad}
 use Rattle.pieces.specs.Record.{Stand, Moved, stateAs, stateIn}
-use Rattle.pieces.specs.Reading.{Key, Good, Bad, keyOf, countedOn, rowHere, still}
-use Rattle.pieces.specs.Serving.{Ready, Sits, Served, Past, Begun, Short}
+use Rattle.pieces.specs.Reading.{Bad, keyOf, countedOn, rowHere}
+use Rattle.pieces.specs.Serving.{Ready, Sits, Served, Begun, Short}
 use Rattle.entries.specs.Runs.{runFrom}
 use Rattle.entries.specs.declared.Run.{Run}
-use Rattle.pieces.proofs.Filling.{Rowed, keyed, keyGiven, rowed-whole}
+use Rattle.pieces.proofs.Filling.{Rowed, rowed-whole}
 use Rattle.pieces.proofs.Rowing.{rowed-then, RowDone, Found, found}
 use Rattle.uncut.proofs.Rows.{size-pos}
 use Rattle.pieces.proofs.Stages.{at-records, at-counting}

@@ -3,8 +3,8 @@
 use Prim.Native.Nat.{ℕ, zero, suc, _+_, _-_, _*_, _≤_, _<_, zero-le}
 use mathlib.Core.Path.{_≡_, refl, sym, ap, ap₂, _∙_}
 use mathlib.Core.Bool.{Bool, true, false}
-use mathlib.Core.List.{List, [], _∷_, _++_}
-use native.Mathlib.Nat.{mul-suc, mul-zero, add-suc}
+use mathlib.Core.List.{List, [], _++_}
+use native.Mathlib.Nat.{mul-suc, mul-zero}
 use native.Mathlib.Omega.{arith}
 use lib.ListN.{length, take, drop, length-append, length-drop}
 use lib.Seq.{length-take-le, take-add, drop-drop}
@@ -23,7 +23,7 @@ use Rattle.entries.specs.declared.Run.{Run}
 use Rattle.uncut.proofs.Cuts.{after-append, delivered-append}
 use Rattle.pieces.proofs.Going.{taking-append}
 use Rattle.uncut.proofs.Rows.{size-pos}
-use Rattle.pieces.proofs.Filling.{Rowed, keyed, keyGiven, rowed-whole}
+use Rattle.pieces.proofs.Filling.{Rowed, rowed-whole}
 
 -- what comes after a key
 abbrev pub byKey : {A : Type 0} → Key → (ℕ → ℕ → A) → A → A

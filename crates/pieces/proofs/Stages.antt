@@ -1,16 +1,16 @@
 -- What the words say at each stage, and what each state answers.
 -- Assumes nothing.
-use Prim.Native.Nat.{ℕ, zero, suc, _≤_}
-use mathlib.Core.Path.{_≡_, refl, sym, ap, _∙_}
+use Prim.Native.Nat.{ℕ, zero, suc}
+use mathlib.Core.Path.{_≡_, refl}
 use mathlib.Core.Bool.{Bool, true, false}
 use mathlib.Core.List.{List, []}
 use native.Mathlib.Omega.{arith}
-use borrow.Author.Tests.{eq-eqb, ne-eqb}
+use borrow.Author.Tests.{ne-eqb}
 use lib.Dec.{eqb}
 use Rattle.wire.specs.Bytes.{pick}
 use Rattle.report.specs.Header.{headerOf, emptyHeader}
-use Rattle.uncut.specs.State.{State, Numbers, Records, Counting, Refused, Accepted, standing, headerAt, atEnd}
-use Rattle.pieces.specs.Record.{stateAs, bodyAs, bodyOf}
+use Rattle.uncut.specs.State.{Numbers, Records, Counting, Refused, Accepted, standing, headerAt, atEnd}
+use Rattle.pieces.specs.Record.{stateAs}
 use Rattle.pieces.specs.Calls.{wholeAt}
 
 module _ (stage left last above : ℕ) (ns held : List ℕ) where

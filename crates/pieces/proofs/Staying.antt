@@ -1,22 +1,20 @@
 -- What passes stays so: from a state that is fit every byte leads to one that is.
 -- Assumes nothing.
-use Prim.Native.Nat.{ℕ, zero, suc, _+_, _-_, _≤_, _<_, zero-le}
-use mathlib.Core.Path.{_≡_, refl, sym, ap, _∙_}
-use mathlib.Core.Logic.{_⊎_, ⊎-elim}
+use Prim.Native.Nat.{ℕ, zero, suc, _+_, _≤_, _<_, zero-le}
+use mathlib.Core.Path.{_≡_, refl, sym}
+use mathlib.Core.Logic.{⊎-elim}
 use mathlib.Core.Bool.{Bool, true, false, _&&_}
 use mathlib.Core.List.{List, [], _∷_, _++_}
 use native.Mathlib.Omega.{arith}
 use borrow.Author.Tests.{le-leb, lt-ltb, leb-true, leb-false, eqb-true, eqb-false, ltb-true}
 use lib.Dec.{leb, eqb, ltb}
-use lib.ListN.{length, getD, take, length-append, List·getD-append}
-use lib.Seq.{take-all, getD-append-add}
+use lib.ListN.{length, getD, length-append}
 use Rattle.wire.specs.Bytes.{pick, Octets}
 use Rattle.wire.specs.Fields.{formed}
 use Rattle.wire.specs.Numbers.{limit, allSmall, readNumber}
 use Rattle.wire.specs.Exactly.{OneOf}
 use Rattle.wire.specs.declared.Number.{Number}
 use Rattle.wire.specs.declared.Number.the-variants.{Value, Ends}
-use Rattle.wire.proofs.Lengths.{split}
 use Rattle.wire.proofs.Reading.{number-ends}
 use Rattle.wire.proofs.Accepted.{accepted-small}
 use Rattle.entries.specs.Limits.{mostEntries}
@@ -32,7 +30,7 @@ use Rattle.report.proofs.Places.{place-judged}
 use Rattle.uncut.specs.State.{State, Numbers, Records, Counting, Refused, Accepted, start, atEnd}
 use Rattle.uncut.specs.Step.{groupIn, aboveIn, afterBad, withNumber, fieldGrown, recordJudged, recordGrown, step, after}
 use Rattle.pieces.specs.Fitness.{numbersFit, isEnds, canStand, fieldFit, rowsFit, fit}
-use Rattle.pieces.specs.Kept.{numbersAt, heldAt, Kept}
+use Rattle.pieces.specs.Kept.{Kept}
 use Rattle.pieces.proofs.Fits.{both}
 use Rattle.pieces.proofs.Keeping.{metrics-within, count-within}
 use Rattle.uncut.proofs.Rows.{size-pos}

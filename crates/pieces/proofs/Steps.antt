@@ -1,31 +1,29 @@
 -- The steps of a call over records: the one that is carried is made whole, then those that lie whole in the part.
 -- Assumes nothing.
-use Prim.Native.Nat.{ℕ, zero, suc, _+_, _-_, _*_, _/_, _≤_, _<_, zero-le, min}
+use Prim.Native.Nat.{ℕ, zero, suc, _+_, _-_, _*_, _≤_, _<_, zero-le}
 use mathlib.Core.Path.{_≡_, refl, sym, ap, ap₂, _∙_}
-use mathlib.Core.Logic.{_⊎_, inl, inr, ⊎-elim}
+use mathlib.Core.Logic.{inl, inr}
 use mathlib.Core.Bool.{Bool, true, false}
-use mathlib.Core.List.{List, [], _∷_, _++_, append-nil}
-use native.Mathlib.Nat.{mul-zero, mul-suc}
+use mathlib.Core.List.{List, [], _∷_, _++_}
+use native.Mathlib.Nat.{mul-zero}
 use native.Mathlib.Omega.{arith}
 use borrow.Author.Tests.{eqb-true, eqb-false, leb-true, leb-false}
 use lib.Dec.{eqb, leb}
-use lib.ListN.{length, take, drop, length-append, length-drop}
+use lib.ListN.{length, take, drop, length-append}
 use lib.Seq.{length-take-le}
 use Rattle.wire.specs.Bytes.{pick, splice}
-use Rattle.wire.proofs.Lengths.{split}
 use Rattle.entries.specs.Profiles.{recordSize}
 use Rattle.entries.specs.declared.Profile.{Profile}
 use Rattle.entries.specs.declared.Profile.the-variants.{One, Two}
 use Rattle.uncut.specs.State.{State, Numbers, Records, Counting, Refused, Accepted}
-use Rattle.uncut.specs.Step.{afterBad, after, delivered}
+use Rattle.uncut.specs.Step.{afterBad, delivered}
 use Rattle.uncut.specs.Cutting.{taking}
 use Rattle.pieces.specs.Record.{Stand, Moved, stateAs, stateIn}
-use Rattle.pieces.specs.Reading.{Key, Good, Bad, keyOf, countedOn, completesOf, rowHere, still}
-use Rattle.pieces.specs.Serving.{Ready, Sits, Went, Served, Past, Begun, Short}
+use Rattle.pieces.specs.Reading.{Key, Good, Bad, keyOf, countedOn, completesOf}
+use Rattle.pieces.specs.Serving.{Ready, Sits, Served, Past, Begun}
 use Rattle.pieces.proofs.Going.{went-chunk}
 use Rattle.pieces.proofs.Keeping.{ready-after}
 use Rattle.pieces.proofs.Filling.{Rowed, keyed, keyGiven, rowed-whole}
-use Rattle.uncut.proofs.Rows.{size-pos}
 use Rattle.pieces.proofs.Stages.{at-records, at-counting}
 
 pub size-most : (p : Profile) → recordSize p ≤ 24

@@ -5,7 +5,6 @@ use lib.Dec.{leb}
 use lib.ListN.{length, take}
 use Rattle.wire.specs.Bytes.{pick, splice}
 use Rattle.entries.specs.Profiles.{recordSize, ofProfile}
-use Rattle.entries.specs.declared.Profile.{Profile}
 use Rattle.report.specs.Header.{emptyHeader}
 use Rattle.report.specs.declared.Report.{Report}
 use Rattle.uncut.specs.State.{State, Numbers, Records, Counting, Refused, Accepted, start, standing, headerAt, reportAt, atEnd}

@@ -14,11 +14,11 @@ use Rattle.entries.specs.declared.Profile.{Profile}
 use Rattle.report.specs.Layout.{atMetrics}
 use Rattle.report.specs.Limits.{mostNumbers}
 use Rattle.report.specs.Header.{judgeField, wantedOf}
-use Rattle.uncut.specs.State.{State, Numbers, Records, Counting, Refused, Accepted, standing, atEnd}
+use Rattle.uncut.specs.State.{State, Numbers, Records, Counting, Refused, Accepted, standing}
 use Rattle.uncut.specs.Step.{after}
 use Rattle.pieces.specs.Record.{mostCarried, profileIn, stateOf}
 use Rattle.pieces.specs.Fitness.{consistent}
-use Rattle.pieces.specs.Calls.{openRefusal, openAfter, takenOf, takeAnswer, endAnswer}
+use Rattle.pieces.specs.Calls.{openRefusal, takenOf, takeAnswer, endAnswer}
 
 -- ---- 1: "a record whose parts disagree or break 5"
 

@@ -1,6 +1,6 @@
 -- The next field behind what is carried, and the key of a record.
 use Prim.Native.Nat.{ℕ, _+_, _-_}
-use mathlib.Core.Bool.{Bool, true, false}
+use mathlib.Core.Bool.{Bool, false}
 use mathlib.Core.List.{List}
 use lib.Dec.{eqb, leb}
 use Rattle.wire.specs.Bytes.{pick}

@@ -1,7 +1,6 @@
 // Which records are served.
 ghost use mathlib.Core.Path.{_≡_};
 ghost use mathlib.Core.Bool.{false};
-ghost use lib.ListN.{length};
 ghost use Rattle.entries.specs.Profiles.{ofProfile};
 ghost use Rattle.pieces.specs.Record.{standIn};
 ghost use Rattle.pieces.specs.Fitness.{numbersFit, fieldFit, rowsFit, canStand, standFit};

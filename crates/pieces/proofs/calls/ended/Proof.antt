@@ -1,6 +1,6 @@
 -- `pieces::calls::ended` meets its contract, by its stage.
 -- Assumes nothing.
-use mathlib.Core.Path.{_≡_, refl, sym, ap, _∙_}
+use mathlib.Core.Path.{refl, sym, ap}
 use Rattle.uncut.specs.State.{atEnd}
 use Rattle.pieces.specs.Record.{stateAs}
 use Rattle.pieces.proofs.Stages.{at-accepted, end-counting, end-records}

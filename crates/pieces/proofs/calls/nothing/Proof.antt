@@ -1,7 +1,7 @@
 -- `pieces::calls::nothing` meets its contract: the empty header stands beside the refusal.
 -- Assumes nothing.
 use borrow.Author.Needs.{needs}
-use mathlib.Core.Path.{_≡_, refl, sym, ap, _∙_}
+use mathlib.Core.Path.{refl}
 use Rattle.pieces.proofs.calls.nothing.Statement.{statement}
 use Rattle.pieces.proofs.calls.nothing.Tie as tie
 

@@ -1,7 +1,7 @@
 -- `pieces::calls::refused` meets its contract: the empty header stands beside the refusal.
 -- Assumes nothing.
 use borrow.Author.Needs.{needs}
-use mathlib.Core.Path.{_≡_, refl, sym, ap, _∙_}
+use mathlib.Core.Path.{refl}
 use Rattle.pieces.proofs.calls.refused.Statement.{statement}
 use Rattle.pieces.proofs.calls.refused.Tie as tie
 

@@ -1,6 +1,6 @@
 -- `pieces::calls::standing_at` meets its contract, by its stage.
 -- Assumes nothing.
-use mathlib.Core.Path.{_≡_, refl, sym, ap, _∙_}
+use mathlib.Core.Path.{refl, sym, ap}
 use lib.ListN.{take}
 use Rattle.uncut.specs.State.{standing}
 use Rattle.pieces.specs.Record.{numbersIn, stateAs}

@@ -1,7 +1,7 @@
 -- `pieces::calls::started` meets its contract: the words are those of a start.
 -- Assumes nothing.
 use borrow.Author.Needs.{needs}
-use mathlib.Core.Path.{_≡_, refl, sym, ap, _∙_}
+use mathlib.Core.Path.{refl}
 use Rattle.pieces.specs.Record.{bodyAs, bodyOf}
 use Rattle.pieces.proofs.calls.started.Statement.{statement}
 use Rattle.pieces.proofs.calls.started.Tie as tie

@@ -1,17 +1,14 @@
 -- `pieces::calls::take` meets its contract: 1, 9, then what the part brings.
 -- Assumes nothing.
 use borrow.Author.Needs.{needs}
-use mathlib.Core.Path.{_≡_, refl, sym, ap, _∙_}
-use native.Mathlib.Omega.{arith}
+use mathlib.Core.Path.{_≡_, sym, ap, _∙_}
 use denote.Ref.{now}
 use borrow.Author.Tests.{not-true, not-false}
 use mathlib.Core.Bool.{true}
-use lib.ListN.{length}
 use Rattle.entries.specs.Profiles.{recordSize}
 use Rattle.entries.specs.declared.Profile.{Profile}
 use Rattle.pieces.specs.Record.{standIn, stateIn, movedIn, wordsOf}
 use Rattle.pieces.specs.Fitness.{consistent}
-use Rattle.pieces.specs.declared.Marks.{Marks}
 use Rattle.pieces.proofs.Calling.{take-one, take-nine, take-served, tested, sits-loaded}
 use Rattle.pieces.proofs.calls.take.Statement.{statement}
 use Rattle.pieces.proofs.calls.take.Tie as tie

@@ -1,6 +1,6 @@
 -- `pieces::calls::whole_at` meets its contract, by its stage.
 -- Assumes nothing.
-use mathlib.Core.Path.{_≡_, refl, sym, ap, _∙_}
+use mathlib.Core.Path.{refl, sym}
 use lib.ListN.{take}
 use Rattle.pieces.specs.Record.{numbersIn, stateAs}
 use Rattle.pieces.proofs.Stages.{whole-other, whole-counting}

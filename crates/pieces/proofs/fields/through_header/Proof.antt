@@ -1,11 +1,8 @@
 -- `pieces::fields::through_header` meets its contract, by the stage.
 -- Assumes nothing.
 use borrow.Author.Needs.{needs}
-use mathlib.Core.Path.{_≡_, refl, sym, ap, _∙_}
 use denote.Ref.{now}
-use Rattle.pieces.specs.Serving.{Past}
-use Rattle.pieces.specs.Record.{standIn, movedIn}
-use Rattle.pieces.specs.declared.Walked.{Walked}
+use Rattle.pieces.specs.Record.{standIn}
 use Rattle.pieces.proofs.Going.{served-still}
 use Rattle.pieces.proofs.Numbering.{past-still}
 use Rattle.pieces.proofs.fields.through_header.Statement.{statement}

@@ -1,7 +1,7 @@
 -- `pieces::fitness::can_stand` meets its contract, number by number.
 -- Assumes nothing.
-use mathlib.Core.Path.{_≡_, refl, sym, ap, _∙_}
-use borrow.Author.Tests.{eq-eqb, ne-eqb, lt-leb, le-leb, lt-ltb, le-ltb, not-true, not-false}
+use mathlib.Core.Path.{refl}
+use borrow.Author.Tests.{ne-eqb}
 use Rattle.pieces.proofs.fitness.can_stand.Statement.{statement}
 use Rattle.pieces.proofs.fitness.can_stand.Tie as tie
 

@@ -1,8 +1,7 @@
 -- `pieces::fitness::consistent` meets its contract, by its profile.
 -- Assumes nothing.
 use borrow.Author.Needs.{needs}
-use mathlib.Core.Path.{_≡_, refl, sym, ap, _∙_}
-use borrow.Author.Tests.{eq-eqb, ne-eqb, lt-leb, le-leb, lt-ltb, le-ltb, not-true, not-false}
+use borrow.Author.Tests.{ne-eqb}
 use Rattle.pieces.proofs.fitness.consistent.Statement.{statement}
 use Rattle.pieces.proofs.fitness.consistent.Tie as tie
 

@@ -1,8 +1,7 @@
 -- `pieces::fitness::field_fit` meets its contract: its tests are the definition's.
 -- Assumes nothing.
 use borrow.Author.Needs.{needs}
-use mathlib.Core.Path.{_≡_, refl, sym, ap, _∙_}
-use denote.Ref.{now}
+use mathlib.Core.Path.{sym, _∙_}
 use Rattle.pieces.proofs.Fits.{field-whole, field-read}
 use Rattle.pieces.proofs.fitness.field_fit.Statement.{statement}
 use Rattle.pieces.proofs.fitness.field_fit.Tie as tie

@@ -1,8 +1,7 @@
 -- `pieces::fitness::rows_fit` meets its contract: its tests are the definition's.
 -- Assumes nothing.
 use borrow.Author.Needs.{needs}
-use mathlib.Core.Path.{_≡_, refl, sym, ap, _∙_}
-use borrow.Author.Tests.{eq-eqb, ne-eqb, lt-leb, le-leb, lt-ltb, le-ltb, not-true, not-false}
+use borrow.Author.Tests.{lt-leb, le-leb}
 use Rattle.pieces.specs.Fitness.{rowsFit}
 use Rattle.pieces.proofs.fitness.rows_fit.Statement.{statement}
 use Rattle.pieces.proofs.fitness.rows_fit.Tie as tie

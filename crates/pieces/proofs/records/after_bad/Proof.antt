@@ -1,7 +1,7 @@
 -- `pieces::records::after_bad` meets its contract: the numbers are small.
 -- Assumes nothing.
 use borrow.Author.Needs.{needs}
-use mathlib.Core.Path.{_≡_, refl, sym, ap, _∙_}
+use mathlib.Core.Path.{refl}
 use native.Mathlib.Omega.{arith}
 use Prim.Native.Nat.{ℕ, _*_, _≤_}
 use Rattle.entries.specs.Profiles.{recordSize}

@@ -1,7 +1,6 @@
 -- `pieces::records::row_here` meets its contract: its tests are the definition's.
 -- Assumes nothing.
 use borrow.Author.Tests.{eq-eqb, ne-eqb}
-use mathlib.Core.Path.{refl}
 use Rattle.pieces.proofs.records.row_here.Statement.{statement}
 use Rattle.pieces.proofs.records.row_here.Tie as tie
 

@@ -1,14 +1,12 @@
 -- `pieces::rest::begin_record` meets its contract, by what is to come.
 -- Assumes nothing.
 use borrow.Author.Needs.{needs}
-use mathlib.Core.Path.{_≡_, refl, sym, ap, _∙_}
-use native.Mathlib.Omega.{arith}
+use mathlib.Core.Path.{refl, ap}
 use denote.Ref.{now}
-use Prim.Native.Nat.{ℕ, _+_, _≤_}
+use Prim.Native.Nat.{ℕ, _+_}
 use mathlib.Core.List.{List}
 use lib.ListN.{length}
-use Rattle.entries.specs.Profiles.{recordSize}
-use Rattle.pieces.specs.Record.{standIn, heldIn, Stand, Moved, movedIn}
+use Rattle.pieces.specs.Record.{standIn, heldIn, movedIn}
 use Rattle.pieces.specs.declared.Walked.{Walked}
 use Rattle.pieces.proofs.Loading.{held-long}
 use Rattle.pieces.proofs.Endings.{ended-over, ended-behind, ended-full, ended-begun, begin-short}

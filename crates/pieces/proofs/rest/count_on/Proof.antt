@@ -1,10 +1,9 @@
 -- `pieces::rest::count_on` meets its contract: the bytes are counted.
 -- Assumes nothing.
 use borrow.Author.Needs.{needs}
-use mathlib.Core.Path.{_≡_, refl, sym, ap, _∙_}
-use native.Mathlib.Omega.{arith}
+use mathlib.Core.Path.{refl}
 use denote.Ref.{now}
-use Rattle.pieces.specs.Record.{standIn, movedIn}
+use Rattle.pieces.specs.Record.{standIn}
 use Rattle.pieces.proofs.Endings.{ended-counting}
 use Rattle.pieces.proofs.rest.count_on.Statement.{statement}
 use Rattle.pieces.proofs.rest.count_on.Tie as tie

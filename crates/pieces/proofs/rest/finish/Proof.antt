@@ -1,7 +1,7 @@
 -- `pieces::rest::finish` meets its contract, by the stage.
 -- Assumes nothing.
 use borrow.Author.Needs.{needs}
-use mathlib.Core.Path.{_≡_, refl, sym, ap, _∙_}
+use mathlib.Core.Path.{ap}
 use denote.Ref.{now}
 use Rattle.pieces.specs.Record.{standIn, movedIn}
 use Rattle.pieces.specs.declared.Walked.{Walked}

@@ -1,13 +1,11 @@
 -- `pieces::rest::taken_in` meets its contract: two steps, one after the other.
 -- Assumes nothing.
 use borrow.Author.Needs.{needs}
-use mathlib.Core.Path.{_≡_, refl, sym, ap, _∙_}
+use mathlib.Core.Path.{refl}
 use native.Mathlib.Omega.{arith}
 use denote.Ref.{now}
 use mathlib.Core.List.{[]}
-use lib.ListN.{length, take, drop}
 use Rattle.pieces.specs.Record.{stateIn, standIn, movedIn}
-use Rattle.pieces.specs.declared.Walked.{Walked}
 use Rattle.pieces.proofs.Combining.{both-headed, past-lent}
 use Rattle.pieces.proofs.rest.taken_in.Statement.{statement}
 use Rattle.pieces.proofs.rest.taken_in.Tie as tie

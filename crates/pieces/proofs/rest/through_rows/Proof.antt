@@ -1,12 +1,10 @@
 -- `pieces::rest::through_rows` meets its contract: two steps, one after the other.
 -- Assumes nothing.
 use borrow.Author.Needs.{needs}
-use mathlib.Core.Path.{_≡_, refl, sym, ap, _∙_}
+use mathlib.Core.Path.{refl}
 use native.Mathlib.Omega.{arith}
 use denote.Ref.{now}
-use lib.ListN.{length, take, drop}
 use Rattle.pieces.specs.Record.{stateIn, standIn, movedIn}
-use Rattle.pieces.specs.declared.Walked.{Walked}
 use Rattle.pieces.proofs.Combining.{both-rows, filled-fits, begun-lent, same-room, few-records}
 use Rattle.pieces.proofs.rest.through_rows.Statement.{statement}
 use Rattle.pieces.proofs.rest.through_rows.Tie as tie

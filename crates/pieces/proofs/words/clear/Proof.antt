@@ -1,11 +1,10 @@
 -- `pieces::words::clear` meets its contract. The loop's invariant: so many words are 0.
 -- Assumes nothing.
 use borrow.Author.Needs.{needs}
-use mathlib.Core.Path.{_≡_, refl, sym, ap, _∙_}
+use mathlib.Core.Path.{_≡_, refl}
 use native.Mathlib.Omega.{arith}
 use denote.Ref.{now}
-use Prim.Native.Nat.{ℕ, _+_, _-_, _≤_}
-use lib.ListN.{length}
+use Prim.Native.Nat.{_-_, _≤_}
 use Rattle.pieces.specs.Record.{Laid}
 use Rattle.pieces.proofs.Laying.{laid-none, laid-more}
 use Rattle.pieces.proofs.words.clear.Statement.{statement}

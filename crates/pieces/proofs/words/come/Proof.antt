@@ -1,12 +1,11 @@
 -- `pieces::words::come` meets its contract: the numbers stand there one after the other.
 -- Assumes nothing.
 use borrow.Author.Needs.{needs}
-use mathlib.Core.Path.{_≡_, refl, sym, ap, _∙_}
+use mathlib.Core.Path.{_≡_}
 use native.Mathlib.Omega.{arith}
 use denote.Ref.{now}
-use Prim.Native.Nat.{ℕ, _+_, _-_}
-use mathlib.Core.List.{List}
-use lib.ListN.{length, take, drop}
+use Prim.Native.Nat.{_+_, _-_}
+use lib.ListN.{length}
 use Rattle.pieces.proofs.Laying.{part-come}
 use Rattle.pieces.proofs.words.come.Statement.{statement}
 use Rattle.pieces.proofs.words.come.Tie as tie

@@ -1,11 +1,11 @@
 -- `pieces::words::cut` meets its contract. The loop's invariant: so many words hold a byte.
 -- Assumes nothing.
 use borrow.Author.Needs.{needs}
-use mathlib.Core.Path.{_≡_, refl, sym, ap, _∙_}
+use mathlib.Core.Path.{_≡_, ap}
 use native.Mathlib.Omega.{arith}
 use denote.Ref.{now}
 use Prim.Native.Nat.{ℕ, _+_, _-_, _%_, _≤_, zero-le}
-use lib.ListN.{length, getD}
+use lib.ListN.{getD}
 use Rattle.pieces.specs.Record.{Laid}
 use Rattle.pieces.proofs.Laying.{laid-none, laid-more}
 use Rattle.pieces.proofs.words.cut.Statement.{statement}

@@ -1,10 +1,10 @@
 -- `pieces::words::held_in` meets its contract. The loop's invariant: what was passed is what stands there.
 -- Assumes nothing.
 use borrow.Author.Needs.{needs}
-use mathlib.Core.Path.{_≡_, refl, sym, ap, _∙_}
+use mathlib.Core.Path.{_≡_, refl}
 use native.Mathlib.Omega.{arith}
 use denote.Ref.{now}
-use Prim.Native.Nat.{_+_, _-_, _≤_, zero-le}
+use Prim.Native.Nat.{_-_, _≤_, zero-le}
 use lib.ListN.{length, take, length-set}
 use Rattle.pieces.specs.Record.{heldIn}
 use Rattle.pieces.proofs.Loading.{held-turn}

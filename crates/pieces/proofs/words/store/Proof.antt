@@ -1,7 +1,6 @@
 -- `pieces::words::store` meets its contract: the words that say nothing become 0, and the first seven are set.
 -- Assumes nothing.
 use borrow.Author.Needs.{needs}
-use mathlib.Core.Path.{_≡_, refl, sym, ap, _∙_}
 use native.Mathlib.Omega.{arith}
 use denote.Ref.{now}
 use Rattle.pieces.proofs.Laying.{behind-laid, stored}

@@ -1,6 +1,6 @@
 -- `pieces::words::tidied` meets its contract, by its stage.
 -- Assumes nothing.
-use mathlib.Core.Path.{_≡_, refl, sym, ap, _∙_}
+use mathlib.Core.Path.{refl, sym, ap}
 use borrow.Author.Needs.{needs}
 use Rattle.pieces.specs.Record.{stateAs, bodyOf}
 use Rattle.pieces.proofs.Stages.{at-accepted}
