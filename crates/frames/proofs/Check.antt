@@ -1,18 +1,14 @@
 -- A checked ACK: reading it is the check and then the room, and the walk over its ranges comes to its end.
 -- Assumes nothing.
-use Prim.Native.Nat.{ℕ, zero, suc, _+_, _-_, _*_, _≤_, _<_}
+use Prim.Native.Nat.{ℕ, zero, suc, _+_, _-_, _≤_}
 use mathlib.Core.Path.{_≡_, refl, sym, ap, subst, _∙_}
 use mathlib.Core.Bool.{Bool}
 use mathlib.Core.List.{List}
-use borrow.Author.Tests.{le-leb, lt-leb}
 use native.Mathlib.Omega.{arith}
 use lib.Dec.{leb, eqb}
-use lib.ListN.{length}
-use Rattle.wire.specs.Bytes.{splice}
 use Rattle.wire.specs.Numbers.{readNumber}
-use Rattle.wire.proofs.Reading.{yes, no}
 use Rattle.frames.specs.Types.{countsType, isAck}
-use Rattle.frames.specs.Ack.{rangesFrom, readRange, IsWhole, Filled, readTail, readRest, AckRead, refused, afterRest, readRanges, readHeader, readAck, checkedRest, checkRanges, checkAck, Kept, afterCheck}
+use Rattle.frames.specs.Ack.{rangesFrom, readRange, IsWhole, readTail, readRest, AckRead, refused, afterRest, readRanges, ackFields, readHeader, readAck, checkedRest, checkRanges, checkAck, afterCheck}
 use Rattle.frames.specs.EachWay.{CheckThenRoom, RangeByRange}
 use Rattle.frames.specs.declared.Walk.{Walk}
 use Rattle.frames.specs.declared.Walk.the-variants.{Whole, Ends, BelowZero}
@@ -21,7 +17,7 @@ use Rattle.frames.specs.declared.Range.the-variants.{Of, Ends as RangeEn
 use Rattle.frames.specs.declared.Tail.{Tail}
 use Rattle.frames.specs.declared.Ending.{Ending}
 use Rattle.frames.specs.declared.Ending.the-variants.{Whole as Ended, Ends as Stops, BelowZero as Low}
-use Rattle.frames.specs.declared.Ack.the-variants.{Frame, NoRoom}
+use Rattle.frames.specs.declared.Ack.the-variants.{Ends as Cut, OtherType}
 use Rattle.frames.specs.declared.Header.{Header}
 use Rattle.frames.specs.declared.Header.the-variants.{Numbers, Ends as HeaderEnds, OtherType as HeaderOther}
 use Rattle.frames.specs.declared.Checked.{Checked}
@@ -57,15 +53,15 @@ check-then-room s xs =
     Same : AckRead → Checked → Type 0
     Same r k = r ≡ afterCheck s k xs
 
--- ---- the check is the numbers before the ranges, then the ranges
+-- ---- the numbers before the ranges, then what is made of them
 
-abbrev pub afterHeader : List ℕ → Header → Checked
-afterHeader s HeaderEnds = CheckedEnds
-afterHeader s HeaderOther = CheckedOther
-afterHeader s (Numbers largest delay count at counted) = checkRanges s at largest delay count counted
+abbrev byHeader : {R : Type 0} → R → R → (ℕ → ℕ → ℕ → ℕ → Bool → R) → Header → R
+byHeader cut other f HeaderEnds = cut
+byHeader cut other f HeaderOther = other
+byHeader cut other f (Numbers largest delay count at counted) = f at largest delay count counted
 
-header-then-ranges : (s : List ℕ) → checkAck s ≡ afterHeader s (readHeader s)
-header-then-ranges s =
+header-first : {R : Type 0} (s : List ℕ) (cut other : R) (f : ℕ → ℕ → ℕ → ℕ → Bool → R) → ackFields s cut other f ≡ byHeader cut other f (readHeader s)
+header-first {R} s cut other f =
     formed-both Same (readNumber s 0) refl (λ kind at0 shortest.
     pick-both Same (isAck kind)
     (pick-both Same shortest
@@ -75,44 +71,27 @@ header-then-ranges s =
     refl)
     refl)
   where
-    Same : Checked → Header → Type 0
-    Same k h = k ≡ afterHeader s h
+    Same : R → Header → Type 0
+    Same r h = r ≡ byHeader cut other f h
 
-kept-rest : (s : List ℕ) (at largest delay count : ℕ) (xs ys : List ℕ) (u : Ending) → Filled count s at largest xs ys → Kept s (checkedRest at largest delay count u) xs ys
-kept-rest s at largest delay count xs ys Stops f = tt
-kept-rest s at largest delay count xs ys Low f = tt
-kept-rest s at largest delay count xs ys (Ended tail used) f = f
+abbrev pub checkAfter : List ℕ → Header → Checked
+checkAfter s h = byHeader CheckedEnds CheckedOther (checkRanges s) h
+
+abbrev pub readAfter : List ℕ → List ℕ → Header → AckRead
+readAfter s xs h = byHeader (refused Cut xs) (refused OtherType xs) (λ at largest delay count counted. readRanges s at largest delay count counted xs) h
 
 -- h is what reading the numbers answers
 module _ (s : List ℕ) {h : Header} (e : h ≡ readHeader s) where
-  pub headed : {v : Header} → h ≡ v → afterHeader s v ≡ checkAck s
-  headed t = ap (afterHeader s) (sym t ∙ e) ∙ sym (header-then-ranges s)
+  pub checked-by : {v : Header} → h ≡ v → checkAfter s v ≡ checkAck s
+  checked-by t = ap (checkAfter s) (sym t ∙ e) ∙ sym (header-first s CheckedEnds CheckedOther (checkRanges s))
 
-  module _ {largest delay count at : ℕ} {counted : Bool} (t : h ≡ Numbers largest delay count at counted) {r : Checked} where
-    -- w is how the walk ended
-    pub headed-walk : {w : Walk} → w ≡ rangesFrom count s at largest .walk → r ≡ checkedRest at largest delay count (readRest counted s w) → r ≡ checkAck s
-    headed-walk d f = f ∙ ap (λ (v : Walk). checkedRest at largest delay count (readRest counted s v)) d ∙ headed t
+  -- w is how the walk ended
+  pub checked-walk : {largest delay count at : ℕ} {counted : Bool} → h ≡ Numbers largest delay count at counted → {w : Walk} {r : Checked} → w ≡ rangesFrom count s at largest .walk
+      → r ≡ checkedRest at largest delay count (readRest counted s w) → r ≡ checkAck s
+  checked-walk {largest} {delay} {count} {at} {counted} t d f = f ∙ ap (λ (v : Walk). checkedRest at largest delay count (readRest counted s v)) d ∙ checked-by t
 
-    pub headed-kept : (xs ys : List ℕ) → r ≡ checkAck s → Filled count s at largest xs ys → Kept s r xs ys
-    headed-kept xs ys q f =
-        subst (λ (v : Checked). Kept s v xs ys) (headed t ∙ sym q)
-        (kept-rest s at largest delay count xs ys (readRest counted s (rangesFrom count s at largest .walk)) f)
-
--- ---- reading a checked frame
-
--- k is what the check answers
-module _ (s xs : List ℕ) {k : Checked} (e : k ≡ checkAck s) where
-  pub read-so : (v : Checked) → k ≡ v → afterCheck s v xs ≡ readAck s xs
-  read-so v t = ap (λ (u : Checked). afterCheck s u xs) (sym t ∙ e) ∙ sym (check-then-room s xs)
-
-  module _ {largest delay at count used : ℕ} {tail : Tail} (t : k ≡ CheckedFrame largest delay at count used tail) where
-    pub no-room : length xs < 2 * (count + 1) → refused NoRoom xs ≡ readAck s xs
-    no-room h = no _ _ (lt-leb (2 * (count + 1)) (length xs) h) refl ∙ read-so _ t
-
-    -- ys is what the ranges' writer left
-    pub accepted : {ys : List ℕ} → 2 * (count + 1) ≤ length xs → ys ≡ splice xs 0 (rangesFrom count s at largest .pairs)
-        → record { answer = Frame largest delay (count + 1) used tail; slice = ys } ≡ readAck s xs
-    accepted h d = yes _ _ (le-leb (2 * (count + 1)) (length xs) h) (rw d) ∙ read-so _ t
+  pub read-by : (xs : List ℕ) {v : Header} → h ≡ v → readAfter s xs v ≡ readAck s xs
+  read-by xs t = ap (readAfter s xs) (sym t ∙ e) ∙ sym (header-first s (refused Cut xs) (refused OtherType xs) (λ at largest delay count counted. readRanges s at largest delay count counted xs))
 
 -- ---- the ranges one by one
 

@@ -1,7 +1,7 @@
 -- A walk that stores ranges as it goes, and the copy of few of them.
 -- Assumes nothing.
 use Prim.Native.Nat.{ℕ, suc, _+_, _-_, _*_, _≤_, _<_}
-use mathlib.Core.Path.{_≡_, refl, sym, ap, subst, _∙_}
+use mathlib.Core.Path.{_≡_, refl, sym, ap, _∙_}
 use mathlib.Core.List.{List, _∷_}
 use native.Mathlib.Numerals.{add-one}
 use native.Mathlib.Omega.{arith}
@@ -9,16 +9,12 @@ use lib.ListN.{length, getD, set, take, drop, length-take}
 use lib.Seq.{drop-cons, take-at}
 use Rattle.wire.specs.Bytes.{splice}
 use Rattle.wire.proofs.Bytes.{store, splice-none}
-use Rattle.frames.specs.Ack.{Ranges, before, rangesFrom, readRange, checkAck, Kept}
+use Rattle.frames.specs.Ack.{Ranges, before, rangesFrom, readRange, IsWhole, Filled}
 use Rattle.frames.specs.declared.Range.{Range}
 use Rattle.frames.specs.declared.Range.the-variants.{Of}
-use Rattle.frames.specs.declared.Tail.{Tail}
-use Rattle.frames.specs.declared.Checked.{Checked}
-use Rattle.frames.specs.declared.Checked.the-variants.{Frame}
 use Rattle.frames.proofs.Ranges.{wrote-range}
 use Rattle.frames.proofs.Steps.{step-more}
 use Rattle.frames.proofs.Lent.{whole-length}
-use Rattle.frames.proofs.Check.{whole}
 
 -- ---- the walk: of count ranges, passed are passed
 
@@ -62,14 +58,13 @@ copied-all xs few i n h e =
     let z : 0 ≡ n - i = omega arith in
     sym (splice-none xs i) ∙ ap (λ (k : ℕ). splice xs i (take k (drop i few))) z ∙ e
 
--- ---- what the check kept: the ranges of a frame that has few
+-- ---- what the first walk kept: the ranges of a frame that has few
 
-pub kept-few : (s : List ℕ) {k : Checked} {largest delay at count used : ℕ} {tail : Tail} → k ≡ checkAck s → k ≡ Frame largest delay at count used tail
-    → (xs ys : List ℕ) → Kept s k xs ys → length xs ≡ 16 → count < 8 → take (2 * (count + 1)) ys ≡ rangesFrom count s at largest .pairs
-kept-few s {k} {largest} {delay} {at} {count} {used} {tail} e t xs ys f l h =
-    let w = whole s e t in
+pub kept-few : (s : List ℕ) (at largest count : ℕ) → IsWhole (rangesFrom count s at largest .walk) → (xs ys : List ℕ) → Filled count s at largest xs ys
+    → length xs ≡ 16 → count < 8 → take (2 * (count + 1)) ys ≡ rangesFrom count s at largest .pairs
+kept-few s at largest count w xs ys f l h =
     let ps : List ℕ = rangesFrom count s at largest .pairs in
-    let d : ys ≡ splice xs 0 ps = subst (λ (v : Checked). Kept s v xs ys) t f w (omega (arith, l, h)) in
+    let d : ys ≡ splice xs 0 ps = f w (omega (arith, l, h)) in
     ap (take (2 * (count + 1))) d ∙ take-at ps (drop (0 + length ps) xs) (2 * (count + 1)) (whole-length count s at largest w)
 
 -- what is taken whole is there

@@ -2,6 +2,7 @@ pub mod Types
 pub mod Ranges
 pub mod Steps
 pub mod Answers
+pub mod One
 pub mod Check
 pub mod Back
 pub mod Shortest

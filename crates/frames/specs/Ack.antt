@@ -160,13 +160,6 @@ checkRanges s at largest delay count counted =
 abbrev pub checkAck : List ℕ → Checked
 checkAck s = ackFields s CheckedEnds CheckedOther (checkRanges s)
 
--- the ranges of a frame that is not refused are in ys
-abbrev pub Kept : List ℕ → Checked → List ℕ → List ℕ → Type 0
-Kept s CheckedEnds xs ys = Unit
-Kept s CheckedOther xs ys = Unit
-Kept s CheckedLow xs ys = Unit
-Kept s (CheckedFrame largest delay at count used tail) xs ys = Filled count s at largest xs ys
-
 -- the whole frame is checked, then the room is judged
 abbrev pub afterCheck : List ℕ → Checked → List ℕ → AckRead
 afterCheck s CheckedEnds xs = refused Cut xs

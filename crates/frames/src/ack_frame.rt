@@ -1,10 +1,8 @@
 // ACK: read, and its ranges written to a lent slice.
 ghost use mathlib.Core.Path.{_≡_};
-ghost use Prim.Native.Nat.{_+_, _*_, _≤_, _<_};
-ghost use lib.ListN.{length, take};
-ghost use Rattle.wire.specs.Bytes.{splice};
+ghost use mathlib.Core.Bool.{true, false};
 ghost use Rattle.frames.specs.Types.{isAck};
-ghost use Rattle.frames.specs.Ack.{rangesFrom, IsWhole, Kept, readTail, readRest, readHeader, readAck, checkedRest, checkAck};
+ghost use Rattle.frames.specs.Ack.{readTail, readRest, readRanges, readHeader, readAck, checkedRest, checkAck};
 use crate::Ack;
 use crate::Checked;
 use crate::Ending;
@@ -12,6 +10,7 @@ use crate::Header;
 use crate::Tail;
 use crate::Walk;
 use crate::ack_ranges::walk_ranges;
+use crate::ack_ranges::write_ranges;
 use wire::Number;
 
 // Its type, and its type with counts.
@@ -157,10 +156,12 @@ fn check_numbers(
     }
 }
 
-// Checks a whole frame (2, 3, 14), and keeps its ranges where the slice has room for all of them.
-fn check_frame(s: &[u8], ranges: &mut [u64]) -> Checked
-    ensures { λ r. ⌜ (r ≡ checkAck (now (s .entry))) × Kept (now (s .entry)) r (now (ranges .entry)) (now (ranges .exit)) ⌝ }
+// Checks the ACK frame that s starts with (2, 3, 14), and writes nothing.
+// Its ranges are then read one by one, by read_range from at on.
+pub fn check_ack(s: &[u8]) -> Checked
+    ensures { λ r. ⌜ r ≡ checkAck (now (s .entry)) ⌝ }
 {
+    let mut nothing = [0u64; 0];
     let header = read_header(s);
     match header {
         Header::Ends => Checked::Ends,
@@ -172,64 +173,73 @@ fn check_frame(s: &[u8], ranges: &mut [u64]) -> Checked
             at,
             counted,
         } => {
-            let walk = walk_ranges(ranges, s, at, largest, count);
+            let walk = walk_ranges(&mut nothing, s, at, largest, count);
             check_numbers(s, walk, at, largest, delay, count, counted)
         }
     }
 }
 
-// Checks the ACK frame that s starts with (2, 3, 14), and writes nothing.
-// Its ranges are then read one by one, by read_range from at on.
-pub fn check_ack(s: &[u8]) -> Checked
-    ensures { λ r. ⌜ r ≡ checkAck (now (s .entry)) ⌝ }
+// Whether a frame's first range is all that comes after its numbers.
+fn is_alone(count: u64, counted: bool) -> bool
+    ensures { λ r. ⌜ (r ≡ true → (count ≡ 0) × (counted ≡ false)) ⌝ }
 {
-    let mut nothing = [0u64; 0];
-    check_frame(s, &mut nothing)
-}
-
-// Copies the first n elements.
-fn copy_first(ranges: &mut [u64], few: &[u64; 16], n: usize)
-    requires { ⌜ (n ≤ 16) × (n ≤ length (now few)) × (n ≤ length (now ranges)) ⌝ }
-    ensures { λ r. ⌜ now (ranges .exit) ≡ splice (now (ranges .entry)) 0 (take n (now (few .entry))) ⌝ }
-{
-    let mut i: usize = 0;
-    while i < n {
-        ranges[i] = few[i];
-        i += 1;
+    if counted {
+        return false;
     }
+    count == 0
 }
 
-// Writes the ranges of a checked frame: by a copy where they are so few that the check kept them, else by a second walk.
-fn write_ranges(ranges: &mut [u64], few: &[u64; 16], s: &[u8], at: usize, largest: u64, count: u64)
-    requires { ⌜ IsWhole (rangesFrom count (now s) at largest .walk) × (2 * (count + 1) ≤ length (now ranges)) × (count < 8 → take (2 * (count + 1)) (now few) ≡ rangesFrom count (now s) at largest .pairs) ⌝ }
-    ensures { λ r. ⌜ now (ranges .exit) ≡ splice (now (ranges .entry)) 0 (rangesFrom count (now (s .entry)) at largest .pairs) ⌝ }
+// Reads the one range of a frame of type 02 that has no other: most frames are so, and need no walk and no place to keep ranges.
+// It ends in one answer, so that the compiler keeps that in registers.
+fn read_one(ranges: &mut [u64], s: &[u8], at: usize, largest: u64, delay: u64) -> Ack
+    ensures { λ r. ⌜ (r ≡ readRanges (now (s .entry)) at largest delay 0 false (now (ranges .entry)) .answer) × (now (ranges .exit) ≡ readRanges (now (s .entry)) at largest delay 0 false (now (ranges .entry)) .slice) ⌝ }
 {
-    if count < 8 {
-        copy_first(ranges, few, 2 * (count as usize + 1));
-        return;
-    }
-    walk_ranges(ranges, s, at, largest, count);
-}
-
-// Reads the ACK frame that s starts with, and writes its ranges to the lent slice: the whole frame is checked before the room is judged (9).
-pub fn read_ack(s: &[u8], ranges: &mut [u64]) -> Ack
-    ensures { λ r. ⌜ (r ≡ readAck (now (s .entry)) (now (ranges .entry)) .answer) × (now (ranges .exit) ≡ readAck (now (s .entry)) (now (ranges .entry)) .slice) ⌝ }
-{
-    // The check keeps eight ranges, which most frames have at most: they need no second walk.
-    let mut few = [0u64; 16];
-    let checked = check_frame(s, &mut few);
-    match checked {
-        Checked::Ends => Ack::Ends,
-        Checked::OtherType => Ack::OtherType,
-        Checked::BelowZero => Ack::BelowZero,
-        Checked::Frame {
-            largest,
-            delay,
-            at,
-            count,
-            used,
-            tail,
+    let length = wire::read_number(s, at);
+    match length {
+        Number::Ends => Ack::Ends,
+        Number::Value {
+            value: len,
+            next,
+            shortest: _,
         } => {
+            if largest < len {
+                Ack::BelowZero
+            } else if ranges.len() < 2 {
+                Ack::NoRoom
+            } else {
+                ranges[0] = largest - len;
+                ranges[1] = largest;
+                Ack::Frame {
+                    largest,
+                    delay,
+                    ranges: 1,
+                    used: next,
+                    tail: Tail::Nothing,
+                }
+            }
+        }
+    }
+}
+
+// Reads a frame's ranges and what comes after them. The walk keeps eight, which most frames have at most: they need no second walk.
+fn read_several(
+    ranges: &mut [u64],
+    s: &[u8],
+    at: usize,
+    largest: u64,
+    delay: u64,
+    count: u64,
+    counted: bool,
+) -> Ack
+    ensures { λ r. ⌜ (r ≡ readRanges (now (s .entry)) at largest delay count counted (now (ranges .entry)) .answer) × (now (ranges .exit) ≡ readRanges (now (s .entry)) at largest delay count counted (now (ranges .entry)) .slice) ⌝ }
+{
+    let mut few = [0u64; 16];
+    let walk = walk_ranges(&mut few, s, at, largest, count);
+    let ending = read_rest(s, walk, counted);
+    match ending {
+        Ending::Ends => Ack::Ends,
+        Ending::BelowZero => Ack::BelowZero,
+        Ending::Whole { tail, used } => {
             // The room is halved, since a count near 2^62 is not to be doubled.
             let pairs = (ranges.len() / 2) as u64;
             if pairs <= count {
@@ -243,6 +253,29 @@ pub fn read_ack(s: &[u8], ranges: &mut [u64]) -> Ack
                 used,
                 tail,
             }
+        }
+    }
+}
+
+// Reads the ACK frame that s starts with, and writes its ranges to the lent slice: the whole frame is checked before the room is judged (9).
+pub fn read_ack(s: &[u8], ranges: &mut [u64]) -> Ack
+    ensures { λ r. ⌜ (r ≡ readAck (now (s .entry)) (now (ranges .entry)) .answer) × (now (ranges .exit) ≡ readAck (now (s .entry)) (now (ranges .entry)) .slice) ⌝ }
+{
+    let header = read_header(s);
+    match header {
+        Header::Ends => Ack::Ends,
+        Header::OtherType => Ack::OtherType,
+        Header::Numbers {
+            largest,
+            delay,
+            count,
+            at,
+            counted,
+        } => {
+            if is_alone(count, counted) {
+                return read_one(ranges, s, at, largest, delay);
+            }
+            read_several(ranges, s, at, largest, delay, count, counted)
         }
     }
 }

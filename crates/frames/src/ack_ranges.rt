@@ -1,8 +1,9 @@
-// The ranges of an ACK frame: one step over them, and the walk that the reader goes by it.
+// The ranges of an ACK frame: one step over them, the walk that the reader goes by it, and how they come to the lent slice.
 ghost use mathlib.Core.Path.{_≡_};
-ghost use Prim.Native.Nat.{_+_, _≤_};
-ghost use lib.ListN.{length, set};
-ghost use Rattle.frames.specs.Ack.{rangesFrom, readRange, Filled};
+ghost use Prim.Native.Nat.{_+_, _*_, _≤_, _<_};
+ghost use lib.ListN.{length, take, set};
+ghost use Rattle.wire.specs.Bytes.{splice};
+ghost use Rattle.frames.specs.Ack.{rangesFrom, readRange, IsWhole, Filled};
 use crate::Range;
 use crate::Walk;
 use wire::Number;
@@ -97,4 +98,35 @@ pub(crate) fn walk_ranges(ranges: &mut [u64], s: &[u8], at: usize, largest: u64,
             }
         }
     }
+}
+
+// Copies the first n elements.
+fn copy_first(ranges: &mut [u64], few: &[u64; 16], n: usize)
+    requires { ⌜ (n ≤ 16) × (n ≤ length (now few)) × (n ≤ length (now ranges)) ⌝ }
+    ensures { λ r. ⌜ now (ranges .exit) ≡ splice (now (ranges .entry)) 0 (take n (now (few .entry))) ⌝ }
+{
+    let mut i: usize = 0;
+    while i < n {
+        ranges[i] = few[i];
+        i += 1;
+    }
+}
+
+// Writes the ranges of a checked frame: by a copy where they are so few that the check kept them, else by a second walk.
+pub(crate) fn write_ranges(
+    ranges: &mut [u64],
+    few: &[u64; 16],
+    s: &[u8],
+    at: usize,
+    largest: u64,
+    count: u64,
+)
+    requires { ⌜ IsWhole (rangesFrom count (now s) at largest .walk) × (2 * (count + 1) ≤ length (now ranges)) × (count < 8 → take (2 * (count + 1)) (now few) ≡ rangesFrom count (now s) at largest .pairs) ⌝ }
+    ensures { λ r. ⌜ now (ranges .exit) ≡ splice (now (ranges .entry)) 0 (rangesFrom count (now (s .entry)) at largest .pairs) ⌝ }
+{
+    if count < 8 {
+        copy_first(ranges, few, 2 * (count as usize + 1));
+        return;
+    }
+    walk_ranges(ranges, s, at, largest, count);
 }

@@ -1,4 +1,4 @@
--- `frames::ack_frame::copy_first` meets its contract. The loop's invariant: what is written, with what is still to copy after it, is the whole.
+-- `frames::ack_ranges::copy_first` meets its contract. The loop's invariant: what is written, with what is still to copy after it, is the whole.
 -- Assumes nothing.
 use Prim.Native.Nat.{_+_, _-_, _≤_}
 use mathlib.Core.Path.{_≡_, refl}
@@ -7,8 +7,8 @@ use native.Mathlib.Omega.{arith}
 use lib.ListN.{length, take, drop, length-set}
 use Rattle.wire.specs.Bytes.{splice}
 use Rattle.frames.proofs.Few.{copied-none, copied-one, copied-all}
-use Rattle.frames.proofs.ack_frame.copy_first.Statement.{statement}
-use Rattle.frames.proofs.ack_frame.copy_first.Tie as tie
+use Rattle.frames.proofs.ack_ranges.copy_first.Statement.{statement}
+use Rattle.frames.proofs.ack_ranges.copy_first.Tie as tie
 
 abbrev Inv-loop : tie.InvT-loop
 Inv-loop ranges₀ few n i₀ ranges i =

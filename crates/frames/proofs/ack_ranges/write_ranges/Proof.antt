@@ -1,12 +1,12 @@
--- `frames::ack_frame::write_ranges` meets its contract: by the copy of what was kept, or by the walk.
+-- `frames::ack_ranges::write_ranges` meets its contract: by the copy of what was kept, or by the walk.
 -- Assumes nothing.
 use mathlib.Core.Path.{ap, _∙_}
 use borrow.Author.Needs.{needs}
 use Rattle.wire.specs.Bytes.{splice}
 use Rattle.frames.proofs.Lent.{whole-length}
 use Rattle.frames.proofs.Few.{few-long}
-use Rattle.frames.proofs.ack_frame.write_ranges.Statement.{statement}
-use Rattle.frames.proofs.ack_frame.write_ranges.Tie as tie
+use Rattle.frames.proofs.ack_ranges.write_ranges.Statement.{statement}
+use Rattle.frames.proofs.ack_ranges.write_ranges.Tie as tie
 
 add-copy-first : tie.Need-add-copy-first
 add-copy-first c = search needs
