@@ -44,14 +44,14 @@ rest-whole s counted (Walked used) h = tt
 rest-whole s counted WalkEnds h = h
 rest-whole s counted WalkLow h = h
 
-pub ended-whole : (s : List ℕ) (counted : Bool) {w v : Walk} {u : Ending} {tail : Tail} {used : ℕ} → u ≡ readRest counted s w → w ≡ v → u ≡ Whole tail used → IsWhole v
-ended-whole s counted {w} {v} e d t = rest-whole s counted v (subst IsEnded (sym t ∙ e ∙ ap (readRest counted s) d) tt)
+pub ended-whole : (s : List ℕ) (counted : Bool) {w v : Walk} {u : Ending} {tail : Tail} {used : ℕ} → w ≡ v → u ≡ readRest counted s w → u ≡ Whole tail used → IsWhole v
+ended-whole s counted {w} {v} d e t = rest-whole s counted v (subst IsEnded (sym t ∙ e ∙ ap (readRest counted s) d) tt)
 
--- u is how the ranges and what comes after them ended
-module _ (s : List ℕ) (at largest delay count : ℕ) (counted : Bool) (xs : List ℕ) {u : Ending} (e : u ≡ readRest counted s (rangesFrom count s at largest .walk)) where
+-- w is how the walk over the ranges ended, and u how what comes after them did
+module _ (s : List ℕ) (at largest delay count : ℕ) (counted : Bool) (xs : List ℕ) {w : Walk} {u : Ending} (d : w ≡ rangesFrom count s at largest .walk) (e : u ≡ readRest counted s w) where
   pub ended-so : (v : Ending) → u ≡ v → afterRest v largest delay count (rangesFrom count s at largest .pairs) xs ≡ readRanges s at largest delay count counted xs
   unfolding readRanges
-  ended-so v t = ap (λ (z : Ending). afterRest z largest delay count (rangesFrom count s at largest .pairs) xs) (sym t ∙ e)
+  ended-so v t = ap (λ (z : Ending). afterRest z largest delay count (rangesFrom count s at largest .pairs) xs) (sym t ∙ e ∙ ap (readRest counted s) d)
 
   module _ {tail : Tail} {used : ℕ} (t : u ≡ Whole tail used) where
     pub no-room : length xs < 2 * (count + 1) → refused NoRoom xs ≡ readRanges s at largest delay count counted xs
@@ -60,7 +60,7 @@ module _ (s : List ℕ) (at largest delay count : ℕ) (counted : Bool) (xs : Li
     -- ys is what the ranges' writer left
     pub accepted : {ys : List ℕ} → 2 * (count + 1) ≤ length xs → ys ≡ splice xs 0 (rangesFrom count s at largest .pairs)
         → record { answer = Frame largest delay (count + 1) used tail; slice = ys } ≡ readRanges s at largest delay count counted xs
-    accepted h d = yes _ _ (le-leb (2 * (count + 1)) (length xs) h) (rw d) ∙ ended-so _ t
+    accepted h f = yes _ _ (le-leb (2 * (count + 1)) (length xs) h) (rw f) ∙ ended-so _ t
 
 -- ---- the counts: n0, n1 and n2 are what reading them answers
 

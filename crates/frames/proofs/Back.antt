@@ -21,7 +21,7 @@ use Rattle.wire.proofs.Standing.{encoded-stand, put-done}
 use Rattle.frames.specs.Types.{frequencyType, immediateType, countsType, ackTypes, isAck}
 use Rattle.frames.specs.Frequency.{readFrequency, frequency}
 use Rattle.frames.specs.Immediate.{readImmediate, immediate}
-use Rattle.frames.specs.Ack.{Ranges, rangesFrom, readTail, readRest, readAck, gapsFrom, rangeNumbers, typeOf, countsOf, ackNumbers, RangesBelow, AckRanges}
+use Rattle.frames.specs.Ack.{Ranges, rangesFrom, readTail, readAck, gapsFrom, rangeNumbers, typeOf, countsOf, ackNumbers, RangesBelow, AckRanges}
 use Rattle.frames.specs.EachWay.{FrequencyWriteRead, ImmediateWriteRead, AckWriteRead}
 use Rattle.frames.specs.declared.Frequency.the-variants.{Frame}
 use Rattle.frames.specs.declared.Immediate.the-variants.{Frame as Alone}
@@ -165,13 +165,11 @@ ack-stands s xs pairs tail delay lo hi used start h b room w (one {mid = m} k (o
     let p = stand-split ((hi - lo) ∷ gapsFrom lo pairs) (countsOf tail) t in
     let r = ranges-stand pairs s at lo hi (p .0) h b (p .1) in
     let walked : Whole (p .0) ≡ rangesFrom (length pairs / 2) s at hi .walk = sym (ap (λ (x : Ranges). x .walk) r) in
-    let whole : Ended tail used ≡ readRest (eqb (typeOf tail) countsType) s (rangesFrom (length pairs / 2) s at hi .walk) =
-    tail-stands tail (p .2) ∙ ap (readRest (eqb (typeOf tail) countsType) s) walked in
     let wrote : splice xs 0 (lo ∷ hi ∷ pairs) ≡ splice xs 0 (rangesFrom (length pairs / 2) s at hi .pairs) = sym (ap (λ (x : Ranges). splice xs 0 (x .pairs)) r) in
     sym
     (type-right ackTypes s _ _ _ refl w (an-ack tail) refl
     (next _ _ refl (rw e at (sym a)) (next _ _ refl (sym c) (next _ _ refl (sym n)
-    (accepted s at hi delay (length pairs / 2) (eqb (typeOf tail) countsType) xs whole refl room wrote)))))
+    (accepted s at hi delay (length pairs / 2) (eqb (typeOf tail) countsType) xs walked (tail-stands tail (p .2)) refl room wrote)))))
 
 -- no number before the counts is above the limit
 pub ranges-small : (kind delay : ℕ) (pairs : List ℕ) → kind ≤ limit → AckRanges pairs → delay ≤ limit → Small (rangeNumbers kind delay pairs)

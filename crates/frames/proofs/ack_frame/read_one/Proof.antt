@@ -1,7 +1,6 @@
 -- `frames::ack_frame::read_one` meets its contract: one law for each answer.
 -- Assumes nothing.
 use borrow.Author.Needs.{needs}
-use native.Mathlib.Omega.{arith}
 use Rattle.frames.proofs.Answers.{both}
 use Rattle.frames.proofs.One.{one-cut, one-low, one-no-room, one-accepted}
 use Rattle.frames.proofs.ack_frame.read_one.Statement.{statement}

@@ -1,9 +1,8 @@
 -- `frames::ack_frame::read_several` meets its contract: one law for each end of the frame, and the room as a halved length.
 -- Assumes nothing.
-use mathlib.Core.Path.{refl, ap, _∙_}
+use mathlib.Core.Path.{refl}
 use borrow.Author.Needs.{needs}
 use native.Mathlib.Omega.{arith}
-use Rattle.frames.specs.Ack.{readRest}
 use Rattle.frames.proofs.Answers.{both, ended-so, ended-whole, no-room, accepted}
 use Rattle.frames.proofs.Few.{kept-few}
 use Rattle.frames.proofs.ack_frame.read_several.Statement.{statement}
@@ -32,14 +31,14 @@ returns c =
     let k = c .before .before in
     let r = k .before .before in
     let w = r .before .before in
-    both (no-room _ _ _ _ _ _ _ (r .read-rest .ensures ∙ ap (readRest _ _) (w .walk-ranges .ensures .0)) (k .ending .given .1) (omega arith))
+    both (no-room _ _ _ _ _ _ _ (w .walk-ranges .ensures .0) (r .read-rest .ensures) (k .ending .given .1) (omega arith))
 
 write-ranges-requires : tie.Need-write-ranges-requires
 write-ranges-requires c κs =
     let k = c .before .before .before .before in
     let r = k .before .before in
     let w = r .before .before in
-    let whole = ended-whole _ _ (r .read-rest .ensures) (w .walk-ranges .ensures .0) (k .ending .given .1) in
+    let whole = ended-whole _ _ (w .walk-ranges .ensures .0) (r .read-rest .ensures) (k .ending .given .1) in
     (whole, omega arith, λ h. kept-few _ _ _ _ whole _ (w .walk-ranges .last .0) (w .walk-ranges .ensures .1) refl h)
 
 add-t24 : tie.Need-add-t24
@@ -49,13 +48,13 @@ returns-2 : tie.Need-returns-2
 returns-2 c =
     let r = c .before .before in
     let w = r .before .before in
-    both (ended-so _ _ _ _ _ _ _ (r .read-rest .ensures ∙ ap (readRest _ _) (w .walk-ranges .ensures .0)) _ (c .enum-told .given .1))
+    both (ended-so _ _ _ _ _ _ _ (w .walk-ranges .ensures .0) (r .read-rest .ensures) _ (c .enum-told .given .1))
 
 returns-3 : tie.Need-returns-3
 returns-3 c =
     let r = c .before .before in
     let w = r .before .before in
-    both (ended-so _ _ _ _ _ _ _ (r .read-rest .ensures ∙ ap (readRest _ _) (w .walk-ranges .ensures .0)) _ (c .enum-told2 .given .1))
+    both (ended-so _ _ _ _ _ _ _ (w .walk-ranges .ensures .0) (r .read-rest .ensures) _ (c .enum-told2 .given .1))
 
 same-length : tie.Need-same-length
 same-length c = search needs
@@ -66,7 +65,7 @@ returns-4 c =
     let k = v .before .before .before .before .before in
     let r = k .before .before in
     let w = r .before .before in
-    both (accepted _ _ _ _ _ _ _ (r .read-rest .ensures ∙ ap (readRest _ _) (w .walk-ranges .ensures .0)) (k .ending .given .1) (omega arith) (v .write-ranges .ensures))
+    both (accepted _ _ _ _ _ _ _ (w .walk-ranges .ensures .0) (r .read-rest .ensures) (k .ending .given .1) (omega arith) (v .write-ranges .ensures))
 
 pub read-several-spec : {M : Type 1} → statement M
 read-several-spec =
