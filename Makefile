@@ -98,15 +98,21 @@ $(ARCHIVE): $(SOURCES) Makefile
 	@$(NM) -g --defined-only target/lib/joined.a | awk 'NF == 3 && ($$3 !~ /^lumbixet_/ || names[$$3]++) { print "archive: " $$3; bad = 1 } END { exit bad || NR == 0 }'
 	@mv target/lib/joined.a $@
 
-program:
-	@rt check replay week
+# The programs, proved where a source is newer than they are.
+PROGRAMS = target/bin/replay target/bin/week
+program: $(PROGRAMS)
+
+$(PROGRAMS): $(SOURCES)
+	@rt check $(@F)
 
 # The command, by rustc alone as the crate is. It is built whole, so that the crate's calls are in line.
-command: emulated archive
+command: emulated $(COMMAND)
+
+$(COMMAND): $(ARCHIVE) include/lumbixet.h $(wildcard command/src/*.rs bindings/rust/src/*.rs)
 	@mkdir -p target/command
 	@$(RUSTC) -O --crate-type rlib --crate-name lumbixet -o target/command/liblumbixet.rlib bindings/rust/src/lib.rs
 	@$(RUSTC) -C opt-level=3 -C codegen-units=1 -C lto -C panic=abort --crate-name lumbixet_command \
-	    --extern lumbixet=target/command/liblumbixet.rlib -o $(COMMAND) command/src/main.rs
+	    --extern lumbixet=target/command/liblumbixet.rlib -o $@ command/src/main.rs
 
 build: archive program command
 
@@ -191,11 +197,19 @@ rust: emulated archive
 	@echo "rust: the crate told the room's story, and its build script finds the archive"
 
 # The second implementation, linked with the archive; where that is emulated, also without it.
-paper: build
-	@mkdir -p target/paper
-	@$(RUSTC) -O --cfg archive -o $(PAPER_AND_ARCHIVE) tools/paper/main.rs
-	@[ $(PAPER) = $(PAPER_AND_ARCHIVE) ] || rustc -O --edition 2021 -o $(PAPER) tools/paper/main.rs
+PAPER_SOURCES = $(wildcard tools/paper/*.rs bindings/rust/src/raw*.rs)
+paper: build $(PAPER_AND_ARCHIVE) $(PAPER)
 	@echo
+
+$(PAPER_AND_ARCHIVE): $(ARCHIVE) $(PAPER_SOURCES)
+	@mkdir -p target/paper
+	@$(RUSTC) -O --cfg archive -o $@ tools/paper/main.rs
+
+ifneq ($(PAPER),$(PAPER_AND_ARCHIVE))
+$(PAPER): $(PAPER_SOURCES)
+	@mkdir -p target/paper
+	@rustc -O --edition 2021 -o $@ tools/paper/main.rs
+endif
 
 compare: paper
 	@echo 'The examples of document 01 and RFC 9000, by the second implementation'
@@ -224,7 +238,7 @@ compare: paper
 bench: paper
 	@mkdir -p target/bench
 	@$(CC) $(CFLAGS) bench/*.c $(ARCHIVE) -o target/bench/bench
-	@[ $(PAPER) = $(PAPER_AND_ARCHIVE) ] || echo 'x86-64 is emulated here: the answers are compared, the times say nothing'
+	@[ '$(PAPER)' = '$(PAPER_AND_ARCHIVE)' ] || echo 'x86-64 is emulated here: the answers are compared, the times say nothing'
 	@target/bench/bench $(PASSES)
 	@$(PAPER) trace-large > target/bench/large.trace
 	@echo
