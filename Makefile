@@ -29,7 +29,7 @@ RUSTC = $(RUST) --edition 2021 -L target/lib
 # How many inputs `make compare` makes for the replay program, how many files for the week's, and how many rounds of calls for the archive.
 INPUTS = 1700
 WEEKS = 1800
-ROUNDS = 2500
+ROUNDS = 2000
 
 # How often `make bench` goes over its rows, and how many bytes its week has.
 PASSES = 20
