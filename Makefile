@@ -51,6 +51,7 @@ help:
 	@echo 'make build    prove and build what is installed: the archive, the two programs and the command'
 	@echo 'make install  put them in their places, with header, pkg-config file and manual pages: PREFIX=/usr/local DESTDIR='
 	@echo 'make uninstall  take them out again'
+	@echo 'make installed  try that under target/: two examples are built from there as a host does, and nothing is left'
 	@echo 'make compare  compare the programs and the archive with a second implementation that was written from the papers'
 	@echo 'make bench    compare the archive with plain C and time both, and the replay program beside the second implementation; no time is judged'
 
