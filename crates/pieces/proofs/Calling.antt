@@ -2,14 +2,14 @@
 -- Assumes nothing.
 use Prim.Native.Nat.{ℕ, _/_, _≤_, _<_}
 use mathlib.Core.Path.{_≡_, refl, sym, ap, ap₂, _∙_}
-use mathlib.Core.Bool.{Bool, true, false}
+use mathlib.Core.Bool.{true, false}
 use mathlib.Core.List.{List}
 use native.Mathlib.Nat.{mul-div-cancel-left}
 use borrow.Author.Tests.{le-leb, lt-leb}
-use lib.ListN.{length, getD, take}
+use lib.ListN.{length, take}
 use lib.Seq.{length-take-le}
 use Rattle.wire.specs.Bytes.{splice}
-use Rattle.entries.specs.Profiles.{recordSize, ofProfile}
+use Rattle.entries.specs.Profiles.{recordSize}
 use Rattle.entries.specs.declared.Profile.{Profile}
 use Rattle.report.specs.declared.Report.{Report}
 use Rattle.uncut.specs.State.{State, reportAt, atEnd}
@@ -17,7 +17,7 @@ use Rattle.uncut.specs.Step.{after, delivered}
 use Rattle.uncut.specs.Cutting.{taking}
 use Rattle.pieces.specs.Record.{Moved, profileIn, marksAt, standIn, stateIn, stateOf, wordsOf}
 use Rattle.pieces.specs.declared.Marks.{Marks}
-use Rattle.pieces.specs.Fitness.{standFit, consistent}
+use Rattle.pieces.specs.Fitness.{consistent}
 use Rattle.pieces.specs.Serving.{Sits, Served}
 use Rattle.pieces.specs.Calls.{refusedReport, refusedAs, answerOf, takeRefusal, takenOf, stateAfter, givenOf, takeAnswer, takeAfter, takeBytes, endAnswer, endAfter}
 use Rattle.pieces.specs.declared.Taken.{Taken}
@@ -75,11 +75,6 @@ module _ (w : List ℕ) where
           g ∙ ap₂ (λ (x : State) (y : ℕ). answerOf x y (m .records)) (sym b) (sym l) ∙ ap (answerOf (stateAfter w part (length xs)) (length (takenOf w part (length xs)))) (sym n),
           (f ∙ ap (wordsOf (profileIn w)) (sym b), s .bytes ∙ ap (splice xs 0) (sym d)),
         )
-
-  -- the code's test, of the words that it loaded
-  pub tested : (from : Marks) (t : Bool) → from ≡ marksAt w → t ≡ ofProfile (getD w 0 0) false (λ p. standFit p (standIn from w)) → t ≡ consistent w
-  unfolding consistent
-  tested from t e f = f ∙ ap (λ (m : Marks). ofProfile (getD w 0 0) false (λ p. standFit p (standIn m w))) e
 
   pub sits-loaded : (from : Marks) (p : Profile) → from ≡ marksAt w → p ≡ profileIn w → consistent w ≡ true → Sits p (standIn from w)
   sits-loaded from p e f g = rw (e, f) (sits-consistent w g)

@@ -141,6 +141,21 @@ module _ (p : Profile) (s : Stand) where
       unfolding fit
       fit-accepted e = ap (fit p) (sym (at-accepted (s .stage) (s .left) (s .last) (s .above) ns held (λ z. omega arith) (λ z. omega arith) (λ z. omega arith) (λ z. omega arith))) ∙ staged (omega arith)
 
+-- ---- the record
+
+module _ (w : List ℕ) where
+  pub consistent-one : getD w 0 0 ≡ 1 → standFit One (standAt w) ≡ consistent w
+  unfolding consistent
+  consistent-one e = rw e refl
+
+  pub consistent-two : getD w 0 0 ≡ 2 → standFit Two (standAt w) ≡ consistent w
+  unfolding consistent
+  consistent-two e = rw e refl
+
+  pub consistent-none : (getD w 0 0 ≡ 1 → ⊥) → (getD w 0 0 ≡ 2 → ⊥) → false ≡ consistent w
+  unfolding consistent
+  consistent-none e f = rw (ne-eqb (getD w 0 0) 1 e, ne-eqb (getD w 0 0) 2 f) refl
+
 -- ---- a record that is served
 
 pub ready-fit : (p : Profile) (st : State) → fit p st ≡ true → Ready p st

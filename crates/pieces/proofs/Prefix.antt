@@ -3,10 +3,10 @@
 use Prim.Native.Nat.{ℕ, zero, suc, _+_, _-_, _/_, _≤_, _<_, min}
 use mathlib.Core.Path.{_≡_, refl, sym, ap, _∙_}
 use mathlib.Core.Bool.{Bool}
-use mathlib.Core.List.{List, [], _++_}
+use mathlib.Core.List.{List, _++_}
 use native.Mathlib.Omega.{arith}
 use lib.Pow.{pow-pos, pow-mono}
-use lib.ListN.{length, getD, take, drop, length-drop, take-append-drop, List·getD-append}
+use lib.ListN.{length, getD, take, drop, take-append-drop, List·getD-append}
 use lib.Seq.{length-take-le, take-all, take-append-le, take-append-add, getD-take}
 use Rattle.wire.specs.Numbers.{lenOf, readNumber}
 use Rattle.wire.specs.declared.Number.{Number}
@@ -100,39 +100,22 @@ value-past held rest v n c u e =
     never-value (sym u ∙ ap (λ (x : List ℕ). readNumber x 0) (sym (take-append-drop n held)) ∙ still-there (take n held) (drop n held) q))
     (λ l. l)
 
-pub value-within : (s : List ℕ) (v n : ℕ) (c : Bool) → readNumber s 0 ≡ Value v n c → n ≤ length s
-value-within s v n c e = omega (arith, value-there s 0 e, value-place s 0 e)
-
 -- ---- the bytes carried and those behind them, read as one
 
-module _ (held part field : List ℕ) (carried at more : ℕ) (h : length held ≡ 24) (l : carried ≤ 8) (w : at ≤ length part) (m : more ≡ min (8 - carried) (length part - at))
-    (j : take (carried + length (take (at + more - at) (drop at part))) field ≡ take carried held ++ take (at + more - at) (drop at part)) where
-  heldNow : List ℕ
-  heldNow = take carried held
-
+module _ (held part field : List ℕ) (carried more : ℕ) (h : length held ≡ 24) (l : carried ≤ 8) (m : more ≡ min (8 - carried) (length part))
+    (j : take (carried + length (take more part)) field ≡ take carried held ++ take more part) where
   size : length (take carried held) ≡ carried
   size = length-take-le carried held (omega arith)
 
-  left : length (drop at part) ≡ length part - at
-  left = length-drop at part
+  field-is : take (carried + more) field ≡ take carried held ++ take more part
+  field-is = let e : length (take more part) ≡ more = length-take-le more part (omega arith) in ap (λ (x : ℕ). take (carried + x) field) (sym e) ∙ j
 
-  enough : more ≤ length (drop at part)
-  enough = omega (arith, left)
-
-  part-size : length (take (at + more - at) (drop at part)) ≡ more
-  part-size = let e : at + more - at ≡ more = omega arith in ap (λ (x : ℕ). length (take x (drop at part))) e ∙ length-take-le more (drop at part) enough
-
-  pub field-is : take (carried + more) field ≡ take carried held ++ take more (drop at part)
-  field-is =
-      let e : at + more - at ≡ more = omega arith in
-      ap (λ (x : ℕ). take (carried + x) field) (sym part-size) ∙ j ∙ ap (λ (x : ℕ). take carried held ++ take x (drop at part)) e
-
-  pub read-field : 0 < carried → getD held 0 0 < 256 → readNumber (take (carried + more) field) 0 ≡ readNumber (take carried held ++ drop at part) 0
+  pub read-field : 0 < carried → getD held 0 0 < 256 → readNumber (take (carried + more) field) 0 ≡ readNumber (take carried held ++ part) 0
   read-field z o =
-      let b : min (8 - length (take carried held)) (length (drop at part)) ≡ more = omega (arith, size, left) in
-      let g : getD (take carried held ++ drop at part) 0 0 ≡ getD held 0 0 = List·getD-append (take carried held) (drop at part) 0 0 (omega (arith, size)) ∙ getD-take carried held 0 0 z in
-      let r = read-behind (take carried held) (drop at part) (omega (arith, size)) (rw g o) in
-      ap (λ (x : List ℕ). readNumber x 0) field-is ∙ ap (λ (x : ℕ). readNumber (take carried held ++ take x (drop at part)) 0) (sym b) ∙ r
+      let b : min (8 - length (take carried held)) (length part) ≡ more = omega (arith, size) in
+      let g : getD (take carried held ++ part) 0 0 ≡ getD held 0 0 = List·getD-append (take carried held) part 0 0 (omega (arith, size)) ∙ getD-take carried held 0 0 z in
+      let r = read-behind (take carried held) part (omega (arith, size)) (rw g o) in
+      ap (λ (x : List ℕ). readNumber x 0) field-is ∙ ap (λ (x : ℕ). readNumber (take carried held ++ take x part) 0) (sym b) ∙ r
 
 pub above-zero : (n : ℕ) → (n ≡ 0 → ⊥) → 0 < n
 above-zero zero h = absurd (h refl)

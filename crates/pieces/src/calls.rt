@@ -192,10 +192,10 @@ pub fn open(state: &mut [u64; WORDS], profile: u64) -> u64
 pub fn take(state: &mut [u64; WORDS], part: &[u8], out: &mut [u8]) -> Taken
     ensures { λ r. ⌜ (r ≡ takeAnswer (now (state .entry)) (now (part .entry)) (length (now (out .entry)))) × ((now (state .exit) ≡ takeAfter (now (state .entry)) (now (part .entry)) (length (now (out .entry)))) × (now (out .exit) ≡ takeBytes (now (state .entry)) (now (part .entry)) (now (out .entry)))) ⌝ }
 {
-    let from = loaded(state);
-    if !consistent(state[AT_PROFILE], from, state) {
+    if !consistent(state) {
         return nothing(1);
     }
+    let from = loaded(state);
     let profile = profile_of(state[AT_PROFILE]);
     if out.len() < record_size(profile) {
         return nothing(9);
@@ -210,10 +210,10 @@ pub fn take(state: &mut [u64; WORDS], part: &[u8], out: &mut [u8]) -> Taken
 pub fn end(state: &mut [u64; WORDS]) -> Report
     ensures { λ r. ⌜ (r ≡ endAnswer (now (state .entry))) × (now (state .exit) ≡ endAfter (now (state .entry))) ⌝ }
 {
-    let from = loaded(state);
-    if !consistent(state[AT_PROFILE], from, state) {
+    if !consistent(state) {
         return refused(1);
     }
+    let from = loaded(state);
     let profile = profile_of(state[AT_PROFILE]);
     let next = ended(from);
     store(state, profile, next);

@@ -47,18 +47,17 @@ pub(crate) fn smaller_of(a: usize, b: usize) -> usize
     if a <= b { a } else { b }
 }
 
-// The field that begins with the bytes carried and goes on at at.
-fn next_field(state: &[u64; WORDS], carried: usize, part: &[u8], at: usize) -> Number
-    requires { ⌜ ((carried ≤ 8) × (at ≤ length (now part))) × (readNumber (take carried (heldIn (now state))) 0 ≡ Number.Ends) ⌝ }
-    ensures { λ r. ⌜ r ≡ shifted carried at (readNumber (take carried (heldIn (now (state .entry))) ++ drop at (now (part .entry))) 0) ⌝ }
+// The field that begins with the bytes carried and goes on in the part.
+fn next_field(state: &[u64; WORDS], carried: usize, part: &[u8]) -> Number
+    requires { ⌜ (carried ≤ 8) × (readNumber (take carried (heldIn (now state))) 0 ≡ Number.Ends) ⌝ }
+    ensures { λ r. ⌜ r ≡ shifted carried 0 (readNumber (take carried (heldIn (now (state .entry))) ++ now (part .entry)) 0) ⌝ }
 {
     if carried == 0 {
-        return wire::read_number(part, at);
+        return wire::read_number(part, 0);
     }
-    let more = smaller_of(LONGEST - carried, part.len() - at);
-    let end = at + more;
+    let more = smaller_of(LONGEST - carried, part.len());
     let held = held_in(state, carried);
-    let field = joined(held, carried, &part[at..end]);
+    let field = joined(held, carried, &part[..more]);
     let length = carried + more;
     let Number::Value {
         value,
@@ -70,7 +69,7 @@ fn next_field(state: &[u64; WORDS], carried: usize, part: &[u8], at: usize) -> N
     };
     Number::Value {
         value,
-        next: at + (next - carried),
+        next: next - carried,
         shortest,
     }
 }
@@ -95,6 +94,7 @@ fn walked(stage: u64, left: u64, count: usize, carried: usize, taken: usize) -> 
 }
 
 // Takes the header's numbers, each judged as soon as it is whole by the step of the whole reader. What is left of a field is carried.
+// Only the first field may begin with bytes that are carried: it is read before the loop, which then asks for them no more.
 pub(crate) fn take_numbers(
     profile: Profile,
     from: Marks,
@@ -107,12 +107,13 @@ pub(crate) fn take_numbers(
     let mut count = from.count;
     let mut carried = from.carried;
     let mut at: usize = 0;
+    let mut field = next_field(state, carried, part);
     while at < part.len() {
         let Number::Value {
             value,
             next,
             shortest,
-        } = next_field(state, carried, part, at)
+        } = field
         else {
             let end = carried + (part.len() - at);
             keep(state, carried, &part[at..]);
@@ -129,6 +130,7 @@ pub(crate) fn take_numbers(
         if wanted(profile, come(state, count)) <= count {
             return walked(RECORDS, value, count, carried, at);
         }
+        field = wire::read_number(part, at);
     }
     walked(NUMBERS, 0, count, carried, at)
 }

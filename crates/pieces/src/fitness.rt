@@ -1,14 +1,14 @@
 // Which records are served.
 ghost use mathlib.Core.Path.{_≡_};
-ghost use mathlib.Core.Bool.{false};
-ghost use Rattle.entries.specs.Profiles.{ofProfile};
-ghost use Rattle.pieces.specs.Record.{standIn};
-ghost use Rattle.pieces.specs.Fitness.{numbersFit, fieldFit, rowsFit, canStand, standFit};
+ghost use Rattle.pieces.specs.Record.{standIn, standAt};
+ghost use Rattle.pieces.specs.Fitness.{numbersFit, fieldFit, rowsFit, canStand, standFit, consistent};
+use crate::AT_PROFILE;
 use crate::CARRIED;
 use crate::Marks;
 use crate::WORDS;
 use crate::words::come;
 use crate::words::held_in;
+use crate::words::loaded;
 use entries::MOST_ENTRIES;
 use entries::Profile;
 use entries::record_size;
@@ -74,7 +74,7 @@ fn can_stand(refusal: u64) -> bool
     }
 }
 
-// Whether the words fit the profile.
+// Whether the marks, with the numbers and bytes that the words have, fit the profile.
 fn stand_fit(profile: Profile, s: Marks, state: &[u64; WORDS]) -> bool
     ensures { λ r. ⌜ r ≡ standFit profile (standIn s (now (state .entry))) ⌝ }
 {
@@ -108,13 +108,23 @@ fn stand_fit(profile: Profile, s: Marks, state: &[u64; WORDS]) -> bool
     }
 }
 
-// Whether the record is consistent.
-pub(crate) fn consistent(profile: u64, s: Marks, state: &[u64; WORDS]) -> bool
-    ensures { λ r. ⌜ r ≡ ofProfile profile false (λ p. standFit p (standIn s (now (state .entry)))) ⌝ }
+// Whether the words fit the profile. They are handed on alone, and loaded where they are judged: a caller that hands its own marks over stores
+// them for that.
+fn words_fit(profile: Profile, state: &[u64; WORDS]) -> bool
+    ensures { λ r. ⌜ r ≡ standFit profile (standAt (now (state .entry))) ⌝ }
 {
+    let s = loaded(state);
+    stand_fit(profile, s, state)
+}
+
+// Whether the record is consistent.
+pub(crate) fn consistent(state: &[u64; WORDS]) -> bool
+    ensures { λ r. ⌜ r ≡ consistent (now (state .entry)) ⌝ }
+{
+    let profile = state[AT_PROFILE];
     match profile {
-        1 => stand_fit(Profile::One, s, state),
-        2 => stand_fit(Profile::Two, s, state),
+        1 => words_fit(Profile::One, state),
+        2 => words_fit(Profile::Two, state),
         _ => false,
     }
 }

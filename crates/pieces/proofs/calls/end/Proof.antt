@@ -11,18 +11,12 @@ use Rattle.uncut.specs.State.{atEnd}
 use Rattle.pieces.specs.Record.{standIn, stateIn, wordsOf}
 use Rattle.pieces.specs.Fitness.{consistent}
 use Rattle.pieces.specs.declared.Marks.{Marks}
-use Rattle.pieces.proofs.Calling.{end-one, end-said, tested, sits-loaded}
+use Rattle.pieces.proofs.Calling.{end-one, end-said, sits-loaded}
 use Rattle.pieces.proofs.calls.end.Statement.{statement}
 use Rattle.pieces.proofs.calls.end.Tie as tie
 
-ok : (c : tie.Else1) → consistent (now (c .before .before .before .before .before .before .args .state)) ≡ true
-ok c = sym (tested (now (c .before .before .before .before .before .before .args .state)) (c .before .before .before .before .loaded .result) (c .before .consistent .result) (c .before .before .before .before .loaded .ensures) (c .before .consistent .ensures)) ∙ not-false _ (c .if1 .left)
-
-loaded-requires : tie.Need-loaded-requires
-loaded-requires c κs = search needs
-
-element-copy-out-consistent : tie.Need-element-copy-out-consistent
-element-copy-out-consistent c = search needs
+ok : (c : tie.Else1) → consistent (now (c .before .before .before .args .state)) ≡ true
+ok c = sym (c .before .consistent .ensures) ∙ not-false _ (c .if1 .left)
 
 consistent-requires : tie.Need-consistent-requires
 consistent-requires c κs = search needs
@@ -31,9 +25,10 @@ refused-requires : tie.Need-refused-requires
 refused-requires c κs = search needs
 
 returns : tie.Need-returns
-returns c =
-    let w = now (c .before .before .before .before .before .before .before .args .state) in
-    end-one w (sym (tested w (c .before .before .before .before .before .loaded .result) (c .before .before .consistent .result) (c .before .before .before .before .before .loaded .ensures) (c .before .before .consistent .ensures)) ∙ not-true _ (c .before .if1 .taken)) _ (c .refused .ensures)
+returns c = end-one (now (c .before .before .before .before .args .state)) (sym (c .before .before .consistent .ensures) ∙ not-true _ (c .before .if1 .taken)) _ (c .refused .ensures)
+
+loaded-requires : tie.Need-loaded-requires
+loaded-requires c κs = search needs
 
 element-copy-out-profile-of : tie.Need-element-copy-out-profile-of
 element-copy-out-profile-of c = search needs
@@ -46,31 +41,30 @@ ended-requires c κs = search needs
 
 store-requires : tie.Need-store-requires
 store-requires c κs =
-    let z = sits-loaded (now (c .before .before .before .before .before .before .before .before .before .before .args .state)) (c .before .before .before .before .before .before .before .before .loaded .result) (c .before .before .profile-of .result) (c .before .before .before .before .before .before .before .before .loaded .ensures) (c .before .before .profile-of .ensures) (ok (c .before .before .before .before)) in
+    let z = sits-loaded (now (c .before .before .before .before .before .before .before .before .before .args .state)) (c .before .before .before .before .loaded .result) (c .before .before .profile-of .result) (c .before .before .before .before .loaded .ensures) (c .before .before .profile-of .ensures) (ok (c .before .before .before .before .before .before)) in
     (omega (arith, c .before .ended .ensures .1 .0, z .count), omega (arith, c .before .ended .ensures .1 .1, z .carried))
 
 report-at-requires : tie.Need-report-at-requires
 report-at-requires c κs =
-    let z = sits-loaded (now (c .before .before .before .before .before .before .before .before .before .before .before .before .args .state)) (c .before .before .before .before .before .before .before .before .before .before .loaded .result) (c .before .before .before .before .profile-of .result) (c .before .before .before .before .before .before .before .before .before .before .loaded .ensures) (c .before .before .before .before .profile-of .ensures) (ok (c .before .before .before .before .before .before)) in
+    let z = sits-loaded (now (c .before .before .before .before .before .before .before .before .before .before .before .args .state)) (c .before .before .before .before .before .before .loaded .result) (c .before .before .before .before .profile-of .result) (c .before .before .before .before .before .before .loaded .ensures) (c .before .before .before .before .profile-of .ensures) (ok (c .before .before .before .before .before .before .before .before)) in
     omega (arith, c .before .before .before .ended .ensures .1 .0, z .count)
 
 returns-2 : tie.Need-returns-2
 returns-2 c =
-    let w = now (c .before .before .before .before .before .before .before .before .before .before .before .before .before .args .state) in
+    let w = now (c .before .before .before .before .before .before .before .before .before .before .before .before .args .state) in
     let e = c .before .before .before .before .ended in
     let p = c .before .before .before .before .before .profile-of in
     let stored = c .before .before .store .ensures in
-    end-said w (ok (c .before .before .before .before .before .before .before)) (stateIn (standIn (e .result) w)) _ _ (e .ensures .0 w ∙ ap (λ (m : Marks). atEnd (stateIn (standIn m w))) (c .before .before .before .before .before .before .before .before .before .before .before .loaded .ensures)) (c .report-at .ensures (p .result) w stored) (stored ∙ ap (λ (q : Profile). wordsOf q (stateIn (standIn (e .result) w))) (p .ensures))
+    end-said w (ok (c .before .before .before .before .before .before .before .before .before)) (stateIn (standIn (e .result) w)) _ _ (e .ensures .0 w ∙ ap (λ (m : Marks). atEnd (stateIn (standIn m w))) (c .before .before .before .before .before .before .before .loaded .ensures)) (c .report-at .ensures (p .result) w stored) (stored ∙ ap (λ (q : Profile). wordsOf q (stateIn (standIn (e .result) w))) (p .ensures))
 
 pub end-spec : {M : Type 1} → statement M
 end-spec =
     tie.close
     (tie.spec
-    loaded-requires
-    element-copy-out-consistent
     consistent-requires
     refused-requires
     returns
+    loaded-requires
     element-copy-out-profile-of
     profile-of-requires
     ended-requires

@@ -9,18 +9,12 @@ use Rattle.entries.specs.Profiles.{recordSize}
 use Rattle.entries.specs.declared.Profile.{Profile}
 use Rattle.pieces.specs.Record.{standIn, stateIn, movedIn, wordsOf}
 use Rattle.pieces.specs.Fitness.{consistent}
-use Rattle.pieces.proofs.Calling.{take-one, take-nine, take-served, tested, sits-loaded}
+use Rattle.pieces.proofs.Calling.{take-one, take-nine, take-served, sits-loaded}
 use Rattle.pieces.proofs.calls.take.Statement.{statement}
 use Rattle.pieces.proofs.calls.take.Tie as tie
 
-ok : (c : tie.Else1) → consistent (now (c .before .before .before .before .before .before .before .before .args .state)) ≡ true
-ok c = sym (tested (now (c .before .before .before .before .before .before .before .before .args .state)) (c .before .before .before .before .loaded .result) (c .before .consistent .result) (c .before .before .before .before .loaded .ensures) (c .before .consistent .ensures)) ∙ not-false _ (c .if1 .left)
-
-loaded-requires : tie.Need-loaded-requires
-loaded-requires c κs = search needs
-
-element-copy-out-consistent : tie.Need-element-copy-out-consistent
-element-copy-out-consistent c = search needs
+ok : (c : tie.Else1) → consistent (now (c .before .before .before .before .before .args .state)) ≡ true
+ok c = sym (c .before .consistent .ensures) ∙ not-false _ (c .if1 .left)
 
 consistent-requires : tie.Need-consistent-requires
 consistent-requires c κs = search needs
@@ -30,9 +24,11 @@ nothing-requires c κs = search needs
 
 returns : tie.Need-returns
 returns c =
-    let a = c .before .before .before .before .before .before .before .before .before .args in
-    let w = now (a .state) in
-    take-one w (sym (tested w (c .before .before .before .before .before .loaded .result) (c .before .before .consistent .result) (c .before .before .before .before .before .loaded .ensures) (c .before .before .consistent .ensures)) ∙ not-true _ (c .before .if1 .taken)) (now (a .part)) (now (a .out)) _ (c .nothing .ensures)
+    let a = c .before .before .before .before .before .before .args in
+    take-one (now (a .state)) (sym (c .before .before .consistent .ensures) ∙ not-true _ (c .before .if1 .taken)) (now (a .part)) (now (a .out)) _ (c .nothing .ensures)
+
+loaded-requires : tie.Need-loaded-requires
+loaded-requires c κs = search needs
 
 element-copy-out-profile-of : tie.Need-element-copy-out-profile-of
 element-copy-out-profile-of c = search needs
@@ -48,13 +44,13 @@ nothing-requires-2 c κs = search needs
 
 returns-2 : tie.Need-returns-2
 returns-2 c =
-    let a = c .before .before .before .before .before .before .before .before .before .before .before .before .before .args in
+    let a = c .before .before .before .before .before .before .before .before .before .before .before .before .args in
     let r = c .before .before .record-size .ensures ∙ ap recordSize (c .before .before .before .profile-of .ensures) in
-    take-nine (now (a .state)) (ok (c .before .before .before .before .before)) (now (a .part)) (now (a .out)) (rw r at (c .before .if2 .taken)) _ (c .nothing2 .ensures)
+    take-nine (now (a .state)) (ok (c .before .before .before .before .before .before .before)) (now (a .part)) (now (a .out)) (rw r at (c .before .if2 .taken)) _ (c .nothing2 .ensures)
 
 taken-in-requires : tie.Need-taken-in-requires
 taken-in-requires c κs =
-    (sits-loaded (now (c .before .before .before .before .before .before .before .before .before .before .before .before .before .before .args .state)) (c .before .before .before .before .before .before .before .before .before .before .loaded .result) (c .before .before .before .before .profile-of .result) (c .before .before .before .before .before .before .before .before .before .before .loaded .ensures) (c .before .before .before .before .profile-of .ensures) (ok (c .before .before .before .before .before .before)), rw (c .before .before .before .record-size .ensures) at (c .before .before .if2 .left))
+    (sits-loaded (now (c .before .before .before .before .before .before .before .before .before .before .before .before .before .args .state)) (c .before .before .before .before .before .before .loaded .result) (c .before .before .before .before .profile-of .result) (c .before .before .before .before .before .before .loaded .ensures) (c .before .before .before .before .profile-of .ensures) (ok (c .before .before .before .before .before .before .before .before)), rw (c .before .before .before .record-size .ensures) at (c .before .before .if2 .left))
 
 store-requires : tie.Need-store-requires
 store-requires c κs = (c .before .before .before .before .taken-in .ensures .0 .sits .count, c .before .before .before .before .taken-in .ensures .0 .sits .carried)
@@ -67,24 +63,23 @@ same-length c = search needs
 
 returns-3 : tie.Need-returns-3
 returns-3 c =
-    let a = c .before .before .before .before .before .before .before .before .before .before .before .before .before .before .before .before .before .before .before .before .before .before .args in
+    let a = c .before .before .before .before .before .before .before .before .before .before .before .before .before .before .before .before .before .before .before .before .before .args in
     let p = c .before .before .before .before .before .before .before .before .before .before .before .before .profile-of .ensures in
-    let l = c .before .before .before .before .before .before .before .before .before .before .before .before .before .before .before .before .before .before .loaded .ensures in
+    let l = c .before .before .before .before .before .before .before .before .before .before .before .before .before .before .loaded .ensures in
     let t = c .before .before .before .before .before .before .before .taken-in in
     let w = t .last .1 .1 .0 in
     let r = c .before .before .before .before .before .before .before .before .before .before .before .record-size .ensures ∙ ap recordSize p in
     let stored = c .before .before .store .ensures in
-    take-served (now (a .state)) (ok (c .before .before .before .before .before .before .before .before .before .before .before .before .before .before)) (now (a .part)) (now (a .out)) (rw r at (c .before .before .before .before .before .before .before .before .before .before .if2 .left)) (movedIn (t .result) w) (t .last .1 .1 .1 .1 .0) _ _ (rw (p, l) at (t .ensures .0)) (rw (p, l) at (t .ensures .1)) (stored ∙ ap (λ (x : Profile). wordsOf x (stateIn (standIn (t .result .now) w))) p) (c .answer .ensures (c .before .before .before .before .before .before .before .before .before .before .before .before .profile-of .result) w stored)
+    take-served (now (a .state)) (ok (c .before .before .before .before .before .before .before .before .before .before .before .before .before .before .before .before)) (now (a .part)) (now (a .out)) (rw r at (c .before .before .before .before .before .before .before .before .before .before .if2 .left)) (movedIn (t .result) w) (t .last .1 .1 .1 .1 .0) _ _ (rw (p, l) at (t .ensures .0)) (rw (p, l) at (t .ensures .1)) (stored ∙ ap (λ (x : Profile). wordsOf x (stateIn (standIn (t .result .now) w))) p) (c .answer .ensures (c .before .before .before .before .before .before .before .before .before .before .before .before .profile-of .result) w stored)
 
 pub take-spec : {M : Type 1} → statement M
 take-spec =
     tie.close
     (tie.spec
-    loaded-requires
-    element-copy-out-consistent
     consistent-requires
     nothing-requires
     returns
+    loaded-requires
     element-copy-out-profile-of
     profile-of-requires
     record-size-requires
