@@ -2,12 +2,12 @@
 -- Assumes nothing.
 use Prim.Native.Nat.{ℕ, zero, suc, _+_, _-_, _%_, _≤_, _<_, zero-le}
 use mathlib.Core.Path.{_≡_, refl, sym, ap, ap₂, _∙_}
-use mathlib.Core.Bool.{Bool, true, false, _&&_}
+use mathlib.Core.Bool.{Bool, true, false}
 use mathlib.Core.List.{List, [], _∷_, _++_, append-assoc}
 use native.Mathlib.Nat.{mod-eq-of-lt, mod-lt}
 use native.Mathlib.Omega.{arith}
-use borrow.Author.Tests.{le-leb, ne-eqb, eqb-true}
-use lib.Dec.{leb, eqb}
+use borrow.Author.Tests.{le-leb}
+use lib.Dec.{eqb}
 use lib.ListN.{length, getD, take, replicate, length-append, List·getD-append, List·getD-eq-default}
 use lib.Seq.{take-at, ext-getD, getD-append-add}
 use Rattle.wire.specs.Bytes.{pick, Octets}
@@ -16,11 +16,11 @@ use Rattle.entries.specs.Profiles.{numberOf}
 use Rattle.entries.specs.declared.Profile.{Profile}
 use Rattle.entries.specs.declared.Profile.the-variants.{One, Two}
 use Rattle.uncut.specs.State.{State, Numbers, Records, Counting, Refused, Accepted}
-use Rattle.pieces.specs.Record.{profileOf, profileIn, numbersIn, heldIn, standAt, stateAs, stateIn, stateOf, padded, bodyAs, bodyOf, wordsOf}
+use Rattle.pieces.specs.Record.{profileIn, numbersIn, heldIn, standAt, stateAs, stateOf, padded, bodyAs, bodyOf, wordsOf}
 use Rattle.pieces.specs.Fitness.{fit, standFit, consistent}
 use Rattle.pieces.specs.Serving.{Ready}
 use Rattle.pieces.specs.Kept.{numbersAt, heldAt, Kept}
-use Rattle.pieces.proofs.Fits.{both, ready-fit}
+use Rattle.pieces.proofs.Fits.{ready-fit, consistent-known, passed}
 use Rattle.pieces.proofs.Laying.{padded-long, zeros}
 use Rattle.pieces.proofs.Loading.{numbers-long, held-long, number-at, byte-at}
 use Rattle.pieces.proofs.Prefix.{ends-short}
@@ -109,19 +109,13 @@ passes p st h =
     places p (Accepted ns) h = (omega arith, (h .few, zero-le))
 
 pub words-pass : (p : Profile) (st : State) → Kept p st → consistent (wordsOf p st) ≡ true
-unfolding consistent
-words-pass One st h = passes One st h
-words-pass Two st h = passes Two st h
+words-pass p st h = consistent-known (wordsOf p st) p refl ∙ passes p st h
 
 -- ---- and words that pass say a state that is kept
 
-stand-kept : (p : Profile) (w : List ℕ) → standFit p (standAt w) ≡ true → Kept p (stateOf w)
-unfolding standFit stateAs
-stand-kept p w e =
-    let a = both (leb (getD w 1 0) 4) (leb (getD w 5 0) 25 && (leb (getD w 6 0) 24 && fit p (stateIn (standAt w)))) e in
-    let b = both (leb (getD w 5 0) 25) (leb (getD w 6 0) 24 && fit p (stateIn (standAt w))) (a .1) in
-    let c = both (leb (getD w 6 0) 24) (fit p (stateIn (standAt w))) (b .1) in
-    record { fits = c .1; few = few (eqb (getD w 1 0) 0) (eqb (getD w 1 0) 1) (eqb (getD w 1 0) 2) (eqb (getD w 1 0) 3); bytes = bytes (eqb (getD w 1 0) 0) (eqb (getD w 1 0) 1) (eqb (getD w 1 0) 2) (eqb (getD w 1 0) 3) }
+pub consistent-kept : (w : List ℕ) → consistent w ≡ true → Kept (profileIn w) (stateOf w)
+unfolding stateAs
+consistent-kept w e = record { fits = passed w e .fits; few = few (eqb (getD w 1 0) 0) (eqb (getD w 1 0) 1) (eqb (getD w 1 0) 2) (eqb (getD w 1 0) 3); bytes = bytes (eqb (getD w 1 0) 0) (eqb (getD w 1 0) 1) (eqb (getD w 1 0) 2) (eqb (getD w 1 0) 3) }
   where
     ns : List ℕ
     ns = take (getD w 5 0) (numbersIn w)
@@ -162,14 +156,3 @@ stand-kept p w e =
     bytes false false true d = octets-none
     bytes false false false true = octets-none
     bytes false false false false = octets-none
-
-pub consistent-kept : (w : List ℕ) → consistent w ≡ true → Kept (profileIn w) (stateOf w)
-unfolding consistent
-consistent-kept w e = go (getD w 0 0) (eqb (getD w 0 0) 1) (eqb (getD w 0 0) 2) refl refl e
-  where
-    go : (n : ℕ) (a b : Bool) → eqb n 1 ≡ a → eqb n 2 ≡ b → pick a (standFit One (standAt w)) (pick b (standFit Two (standAt w)) false) ≡ true → Kept (profileOf n) (stateOf w)
-    go n true b f g h =
-        let z : eqb n 2 ≡ false = ne-eqb n 2 (λ q. absurd (omega (arith, eqb-true n 1 f))) in
-        rw z (stand-kept One w h)
-    go n false true f g h = rw g (stand-kept Two w h)
-    go n false false f g h = let z : _≡_ {A = ℕ} 0 1 = cc in absurd (omega arith)

@@ -5,8 +5,8 @@ use mathlib.Core.Path.{_≡_, refl, sym, ap, _∙_}
 use mathlib.Core.Bool.{Bool, true, false, _&&_}
 use mathlib.Core.List.{List}
 use native.Mathlib.Omega.{arith}
-use borrow.Author.Tests.{ne-eqb, le-leb, lt-leb, lt-ltb, le-ltb, leb-true, ltb-true, eqb-true}
-use lib.Dec.{eqb, leb, ltb}
+use borrow.Author.Tests.{le-leb, lt-leb, lt-ltb, le-ltb, leb-true, ltb-true}
+use lib.Dec.{leb, ltb}
 use lib.ListN.{length, getD, take}
 use lib.Seq.{length-take-le}
 use Rattle.wire.specs.Bytes.{pick}
@@ -15,13 +15,14 @@ use Rattle.wire.specs.declared.Number.{Number}
 use Rattle.wire.specs.declared.Number.the-variants.{Value, Ends}
 use Rattle.wire.specs.declared.Length.the-variants.{Bytes, TooLarge}
 use Rattle.entries.specs.Limits.{mostEntries}
-use Rattle.entries.specs.Profiles.{recordSize, mostMetrics}
+use Rattle.entries.specs.Profiles.{recordSize, mostMetrics, numberOf, Other}
 use Rattle.entries.specs.declared.Profile.{Profile}
 use Rattle.entries.specs.declared.Profile.the-variants.{One, Two}
+use Rattle.entries.proofs.Profiles.{Which, known, other, which, of-known, of-other}
 use Rattle.report.specs.Layout.{atMetrics}
 use Rattle.report.specs.Header.{wantedOf}
 use Rattle.uncut.specs.State.{State, Numbers, Records, Counting, Refused, Accepted}
-use Rattle.pieces.specs.Record.{Stand, stateIn, standAt, profileOf}
+use Rattle.pieces.specs.Record.{Stand, stateIn, stateOf, standAt, profileOf, profileIn}
 use Rattle.pieces.specs.Fitness.{numbersFit, isEnds, canStand, fieldFit, rowsFit, fit, standFit, consistent}
 use Rattle.pieces.specs.Serving.{Ready, Sits}
 use Rattle.pieces.proofs.Loading.{numbers-long, held-long}
@@ -144,17 +145,38 @@ module _ (p : Profile) (s : Stand) where
 -- ---- the record
 
 module _ (w : List ℕ) where
-  pub consistent-one : getD w 0 0 ≡ 1 → standFit One (standAt w) ≡ consistent w
+  pub consistent-known : (p : Profile) → getD w 0 0 ≡ numberOf p → consistent w ≡ standFit p (standAt w)
   unfolding consistent
-  consistent-one e = rw e refl
+  consistent-known = of-known (getD w 0 0) false (λ p. standFit p (standAt w))
 
-  pub consistent-two : getD w 0 0 ≡ 2 → standFit Two (standAt w) ≡ consistent w
+  pub consistent-other : Other (getD w 0 0) → consistent w ≡ false
   unfolding consistent
-  consistent-two e = rw e refl
+  consistent-other = of-other (getD w 0 0) false (λ p. standFit p (standAt w))
 
-  pub consistent-none : (getD w 0 0 ≡ 1 → ⊥) → (getD w 0 0 ≡ 2 → ⊥) → false ≡ consistent w
-  unfolding consistent
-  consistent-none e f = rw (ne-eqb (getD w 0 0) 1 e, ne-eqb (getD w 0 0) 2 f) refl
+  -- what a consistent record has, part by part
+  pub record Passed : Type 0 where
+    pub profile : getD w 0 0 ≡ numberOf (profileIn w)
+    pub stage : getD w 1 0 ≤ 4
+    pub count : getD w 5 0 ≤ 25
+    pub carried : getD w 6 0 ≤ 24
+    pub fits : fit (profileIn w) (stateOf w) ≡ true
+
+  pub passed : consistent w ≡ true → Passed
+  unfolding standFit
+  passed e = go (which (getD w 0 0))
+    where
+      named : (p : Profile) → profileOf (numberOf p) ≡ p
+      named One = refl
+      named Two = refl
+
+      go : Which (getD w 0 0) → Passed
+      go (known p k) =
+          let q : profileIn w ≡ p = ap profileOf k ∙ named p in
+          let a = both (leb (getD w 1 0) 4) (leb (getD w 5 0) 25 && (leb (getD w 6 0) 24 && fit p (stateOf w))) (sym (consistent-known p k) ∙ e) in
+          let b = both (leb (getD w 5 0) 25) (leb (getD w 6 0) 24 && fit p (stateOf w)) (a .1) in
+          let c = both (leb (getD w 6 0) 24) (fit p (stateOf w)) (b .1) in
+          record { profile = k ∙ ap numberOf (sym q); stage = leb-true (getD w 1 0) 4 (a .0); count = leb-true (getD w 5 0) 25 (b .0); carried = leb-true (getD w 6 0) 24 (c .0); fits = rw q (c .1) }
+      go (other o) = never (sym (consistent-other o) ∙ e)
 
 -- ---- a record that is served
 
@@ -179,28 +201,7 @@ ready-fit p (Counting ns n) e = tt
 ready-fit p (Refused n) e = tt
 ready-fit p (Accepted ns) e = tt
 
-pub sits-of : (p : Profile) (w : List ℕ) → standFit p (standAt w) ≡ true → Sits p (standAt w)
-unfolding standFit
-sits-of p w e =
-    let s : Stand = standAt w in
-    let a = both (leb (getD w 1 0) 4) (leb (getD w 5 0) 25 && (leb (getD w 6 0) 24 && fit p (stateIn (standAt w)))) e in
-    let b = both (leb (getD w 5 0) 25) (leb (getD w 6 0) 24 && fit p (stateIn (standAt w))) (a .1) in
-    let c = both (leb (getD w 6 0) 24) (fit p (stateIn (standAt w))) (b .1) in
-    record {
-      count = leb-true (getD w 5 0) 25 (b .0);
-      carried = leb-true (getD w 6 0) 24 (c .0);
-      numbers = numbers-long w;
-      held = held-long w;
-      ready = ready-fit p (stateIn (standAt w)) (c .1);
-    }
-
-pub sits-consistent : (w : List ℕ) → consistent w ≡ true → Sits (profileOf (getD w 0 0)) (standAt w)
-unfolding consistent
-sits-consistent w e = go (getD w 0 0) (eqb (getD w 0 0) 1) (eqb (getD w 0 0) 2) refl refl e
-  where
-    go : (n : ℕ) (a b : Bool) → eqb n 1 ≡ a → eqb n 2 ≡ b → pick a (standFit One (standAt w)) (pick b (standFit Two (standAt w)) false) ≡ true → Sits (profileOf n) (standAt w)
-    go n true b f g h =
-        let z : eqb n 2 ≡ false = ne-eqb n 2 (λ q. absurd (omega (arith, eqb-true n 1 f))) in
-        rw z (sits-of One w h)
-    go n false true f g h = rw g (sits-of Two w h)
-    go n false false f g h = never h
+pub sits-consistent : (w : List ℕ) → consistent w ≡ true → Sits (profileIn w) (standAt w)
+sits-consistent w e =
+    let h = passed w e in
+    record { count = h .count; carried = h .carried; numbers = numbers-long w; held = held-long w; ready = ready-fit (profileIn w) (stateOf w) (h .fits) }

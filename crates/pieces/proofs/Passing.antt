@@ -1,7 +1,7 @@
 -- The test of a record's consistency is the fact that docs/ list.
 -- Assumes nothing.
 use Prim.Native.Nat.{ℕ, _+_}
-use mathlib.Core.Path.{_≡_, refl, sym, ap, _∙_}
+use mathlib.Core.Path.{_≡_, refl, _∙_}
 use mathlib.Core.Logic.{inl, inr, ⊎-elim}
 use mathlib.Core.Bool.{Bool, true, false, _&&_}
 use mathlib.Core.List.{List, [], _∷_}
@@ -16,16 +16,15 @@ use Rattle.wire.specs.declared.Number.{Number}
 use Rattle.wire.specs.declared.Number.the-variants.{Value, Ends}
 use Rattle.wire.proofs.Small.{all-small}
 use Rattle.entries.specs.Limits.{mostEntries}
-use Rattle.entries.specs.Profiles.{recordSize, mostMetrics, numberOf, ofProfile}
+use Rattle.entries.specs.Profiles.{recordSize, mostMetrics}
 use Rattle.entries.specs.declared.Profile.{Profile}
-use Rattle.entries.specs.declared.Profile.the-variants.{One, Two}
 use Rattle.report.specs.Layout.{atMetrics}
 use Rattle.report.specs.Header.{wantedOf}
 use Rattle.uncut.specs.State.{State, Numbers, Records, Counting, Refused, Accepted}
-use Rattle.pieces.specs.Record.{profileOf, profileIn, standAt, stateIn, stateOf}
+use Rattle.pieces.specs.Record.{profileIn, standAt, stateOf}
 use Rattle.pieces.specs.Fitness.{numbersFit, isEnds, canStand, fieldFit, rowsFit, fit, standFit, consistent}
 use Rattle.pieces.specs.Exactly.{NumbersObey, Fit, Consistent, ConsistentExactly}
-use Rattle.pieces.proofs.Fits.{both}
+use Rattle.pieces.proofs.Fits.{both, consistent-known, passed}
 
 never : {A : Type 0} → false ≡ true → A
 never e = let z : _≡_ {A = ℕ} 0 1 = cc in absurd (omega arith)
@@ -86,36 +85,17 @@ module _ (p : Profile) where
   fact-fit (Accepted ns) h = obey-numbers ns h
 
 module _ (w : List ℕ) where
-  passed : (p : Profile) → profileIn w ≡ p → getD w 0 0 ≡ numberOf p → standFit p (standAt w) ≡ true → Consistent w
-  unfolding standFit
-  passed p f g e =
-      let a = both (leb (getD w 1 0) 4) (leb (getD w 5 0) 25 && (leb (getD w 6 0) 24 && fit p (stateIn (standAt w)))) e in
-      let b = both (leb (getD w 5 0) 25) (leb (getD w 6 0) 24 && fit p (stateIn (standAt w))) (a .1) in
-      let c = both (leb (getD w 6 0) 24) (fit p (stateIn (standAt w))) (b .1) in
-      record { profile = g ∙ ap numberOf (sym f); stage = leb-true (getD w 1 0) 4 (a .0); count = leb-true (getD w 5 0) 25 (b .0); carried = leb-true (getD w 6 0) 24 (c .0); fits = rw f (fit-fact p (stateOf w) (c .1)) }
-
   passes : Consistent w → standFit (profileIn w) (standAt w) ≡ true
   unfolding standFit
   passes h = rw (le-leb (getD w 1 0) 4 (h .stage), le-leb (getD w 5 0) 25 (h .count), le-leb (getD w 6 0) 24 (h .carried)) (fact-fit (profileIn w) (stateOf w) (h .fits))
 
   to : consistent w ≡ true → Consistent w
-  unfolding consistent
-  to e = go (eqb (getD w 0 0) 1) (eqb (getD w 0 0) 2) refl refl e
-    where
-      go : (a b : Bool) → eqb (getD w 0 0) 1 ≡ a → eqb (getD w 0 0) 2 ≡ b → pick a (standFit One (standAt w)) (pick b (standFit Two (standAt w)) false) ≡ true → Consistent w
-      go true b f g h =
-          let n : getD w 0 0 ≡ 1 = eqb-true (getD w 0 0) 1 f in
-          passed One (ap profileOf n) n h
-      go false true f g h = let n : getD w 0 0 ≡ 2 = eqb-true (getD w 0 0) 2 g in passed Two (ap profileOf n) n h
-      go false false f g h = never h
+  to e =
+      let h = passed w e in
+      record { profile = h .profile; stage = h .stage; count = h .count; carried = h .carried; fits = fit-fact (profileIn w) (stateOf w) (h .fits) }
 
   from : Consistent w → consistent w ≡ true
-  unfolding consistent
-  from h = go (profileIn w) (h .profile) (passes h)
-    where
-      go : (p : Profile) → getD w 0 0 ≡ numberOf p → standFit p (standAt w) ≡ true → ofProfile (getD w 0 0) false (λ p. standFit p (standAt w)) ≡ true
-      go One e f = rw e f
-      go Two e f = rw e f
+  from h = consistent-known w (profileIn w) (h .profile) ∙ passes h
 
 pub consistent-exactly : ConsistentExactly
 consistent-exactly w = (to w, from w)
