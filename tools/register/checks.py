@@ -143,8 +143,9 @@ def statements(register):
 
 
 def touched(row):
-    """What a row is about: the functions that it names or whose proof it names, and the definitions to which its places lead."""
-    functions, definitions = set(), set()
+    """What a row is about: the functions that it names, or whose proof it names, with all that they call; the definitions that it names or that the
+    contracts of its functions mention, with what these mention; and all definitions to which its places lead."""
+    functions, named, led = set(), set(), set()
     for link in row.links():
         if link.path.endswith(".rt"):
             functions |= {one for one, short in sources.functions().items() if one[0] == link.path and short == link.name}
@@ -152,22 +153,24 @@ def touched(row):
             functions |= {sources.proved_function(link.path)} - {None}
         if link.path.endswith(".antt"):
             for name in [link.name] if link.named() else sources.defined(link.path):
-                definitions |= sources.led_to(link.path, name)
+                led |= sources.led_to(link.path, name)
+                named |= {(link.path, sources.enclosing(link.path, name))}
     for function in functions:
-        definitions |= sources.led_to(function[0], sources.functions()[function])
-    return functions, definitions
+        led |= sources.led_to(function[0], sources.functions()[function])
+        named |= sources.contract(function)[0]
+    named = named.union(*[sources.edits.says(*one) for one in named])
+    return set().union(*[sources.below(function) for function in functions]), named, led
 
 
 def guards(register):
-    """Each wrong answer of a row touches it: it changes a function of the row or one that such a function calls, or a definition to which the row
-    leads, or a function whose contract speaks of such a definition."""
+    """Each wrong answer of a row touches it: it changes a function of the row or one that such a function calls, or one whose contract speaks of
+    what the row names, or a definition to which the row leads."""
     for row in register.rows:
         answers = [link for link in row.links() if link.path.endswith(".edit")]
-        functions, definitions = touched(row) if answers else (set(), set())
-        below = set().union(*[sources.below(function) for function in functions])
+        below, named, led = touched(row) if answers else (set(), set(), set())
         for link in answers:
             changes = sources.wrong_answers().get((link.path, link.name), set())
-            if not any(change in below | definitions or (change in sources.functions() and sources.contract(change)[0] & definitions) for change in changes):
+            if not any(change in below | led or (change in sources.functions() and sources.contract(change)[0] & named) for change in changes):
                 names = ", ".join(sorted(name for _, name in changes)) or "nothing"
                 yield f"{row.at()}: {link.name} changes {names}, and touches nothing of this row"
 

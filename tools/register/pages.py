@@ -93,7 +93,7 @@ def with_lines(page, text):
 
     def mended(match):
         link = links(page, match[0])[0]
-        if not os.path.isfile(link.path) or not link.path.endswith(NAMED) or not match[3]:
+        if not os.path.isfile(link.path) or not link.path.endswith(NAMED):
             return match[0]
         line = sources.defined(link.path).get(link.name)
         return f"[{match[1]}]({match[2]}#L{line})" if line else match[0]
