@@ -49,7 +49,7 @@ def defined(path):
             name = re.match(r"# (\w+): ", line)
             if not edits.together(path):
                 keep(os.path.basename(path)[:-5], number, 0)
-            elif name:
+            elif name and name[1] != "shown":
                 keep(name[1], number, 0)
         elif path.endswith(".rt"):
             if line.startswith("impl "):
