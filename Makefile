@@ -17,8 +17,9 @@ RUSTDOC = /usr/bin/rustdoc --target x86_64-unknown-linux-gnu -C linker=$(CC)
 PAPER_AND_ARCHIVE = target/paper/paper-and-archive
 endif
 CFLAGS = -std=c11 -Wall -Wextra -Wpedantic -Werror -O2 -Iinclude
-# The archive as hosts link it, and the crates whose archives are joined in it.
+# The archive as hosts link it, what of it is proved, and the crates whose archives are joined in that.
 ARCHIVE = target/lib/liblumbixet.a
+PROVED = target/lib/proved.a
 EXPORTS = host host_codec host_report host_entry host_writer host_newest host_pieces host_tracker host_totals host_sent lent
 SOURCES = crates.txt $(shell find crates -name '*.rt' -o -name '*.antt')
 PAPER = target/paper/paper
@@ -63,15 +64,17 @@ emulated:
 	@tools/emulate
 
 run: emulated
-	@echo 'Proving the replay program and what it stands on. The first time this takes some minutes; what is proved says so.'
-	@rt check replay
+	@echo 'Proving the replay program and what it stands on. The first time this takes some minutes.'
+	@tools/prove replay
 	@echo
 	@echo 'Replaying examples/hearing.trace: index, result (0 accepted, else the refusal), cause (0 nothing is due).'
 	@echo
 	@target/bin/replay < examples/hearing.trace
+	@echo
+	@echo 'That was the bundled hearing, a line for each record. It is drawn in examples/hearing.svg; README.md says what to read on.'
 
 picture: emulated command
-	@rt check week
+	@tools/prove week
 	@$(COMMAND) replay --picture target/hearing.svg examples/hearing.trace > target/hearing.lines
 	@mv target/hearing.svg examples/hearing.svg
 	@target/bin/week < examples/week.reports > target/week.lines
@@ -82,7 +85,7 @@ picture: emulated command
 	@echo 'picture: examples/hearing.svg, examples/week.svg and examples/objects.svg'
 
 week: emulated
-	@rt check week
+	@tools/prove week
 	@echo
 	@echo 'The page of examples/week.reports:'
 	@echo
@@ -90,12 +93,20 @@ week: emulated
 
 archive: $(ARCHIVE)
 
-# Building the archive proves its crates again, so it is built only where a source is newer. Each name in it is one of the library's, and stands there once.
-$(ARCHIVE): $(SOURCES) Makefile
+# Building it proves its crates again, so it is built only where a source is newer.
+$(PROVED): $(SOURCES) Makefile
+	@tools/kit
 	@set -e; for crate in $(EXPORTS); do rt staticlib $$crate; done
 	@mkdir -p target/lib
 	@rm -f $@ target/lib/joined.a
 	@{ echo create target/lib/joined.a; for crate in $(EXPORTS); do echo addlib target/staticlib/lib$$crate.a; done; echo save; echo end; } | $(AR) -M
+	@mv target/lib/joined.a $@
+
+# With the version and the texts, which are C. Each name in it is one of the library's, and stands there once.
+$(ARCHIVE): $(PROVED) archive/symbols.c $(wildcard include/*.h)
+	@$(CC) $(CFLAGS) -fPIC -c archive/symbols.c -o target/lib/symbols.o
+	@cp $(PROVED) target/lib/joined.a
+	@$(AR) qD target/lib/joined.a target/lib/symbols.o
 	@$(NM) -g --defined-only target/lib/joined.a | awk 'NF == 3 && ($$3 !~ /^lumbixet_/ || names[$$3]++) { print "archive: " $$3; bad = 1 } END { exit bad || NR == 0 }'
 	@mv target/lib/joined.a $@
 
@@ -104,7 +115,7 @@ PROGRAMS = target/bin/replay target/bin/week
 program: $(PROGRAMS)
 
 $(PROGRAMS): $(SOURCES)
-	@rt check $(@F)
+	@tools/prove $(@F)
 
 # The command, by rustc alone as the crate is. It is built whole, so that the crate's calls are in line.
 command: emulated $(COMMAND)
@@ -147,6 +158,7 @@ host: emulated archive
 	@target/host/check-sent
 	@$(CC) $(CFLAGS) tools/check-pieces.c $(ARCHIVE) -o target/host/check-pieces
 	@target/host/check-pieces
+	@CC='$(CC)' tools/check-version
 	@if command -v $(CXX) >/dev/null; then \
 	    printf '#include "lumbixet_lent.h"\n#include "lumbixet.h"\n#include "lumbixet_tracker.h"\n#include "lumbixet_totals.h"\n#include "lumbixet_sent.h"\n#include "lumbixet_pieces.h"\n' | $(CXX) -std=c++11 -Wall -Wextra -Wpedantic -Werror -Iinclude -fsyntax-only -x c++ -; fi
 	@set -e; for page in DRIVING TRACKING SENDING UNCUT; do \
@@ -184,18 +196,20 @@ relay: emulated archive
 
 # The crate for hosts in Rust and its tests, by rustc alone, which needs no network and no registry.
 rust: emulated archive
-	@mkdir -p target/rust
+	@mkdir -p target/rust/std
 	@$(RUSTC) -O --crate-type rlib --crate-name lumbixet -o target/rust/liblumbixet.rlib bindings/rust/src/lib.rs
-	@$(RUSTC) --crate-type rlib --crate-name lumbixet --cfg 'feature="std"' -o target/rust/with-std.rlib bindings/rust/src/lib.rs
-	@set -e; for test in room edges objects rooms profiles pieces week sending; do \
-	    $(RUSTC) --test --extern lumbixet=target/rust/liblumbixet.rlib -o target/rust/$$test bindings/rust/tests/$$test.rs; \
+	@$(RUSTC) --crate-type rlib --crate-name lumbixet --cfg 'feature="std"' -o target/rust/std/liblumbixet.rlib bindings/rust/src/lib.rs
+	@set -e; for test in room edges objects rooms profiles pieces week sending errors; do \
+	    $(RUSTC) --test --extern lumbixet=target/rust/std/liblumbixet.rlib -o target/rust/$$test bindings/rust/tests/$$test.rs; \
 	    target/rust/$$test -q; \
 	done
 	@if command -v $(firstword $(RUSTDOC)) >/dev/null; then \
 	    $(RUSTDOC) --edition 2021 -L target/lib --extern lumbixet=target/rust/liblumbixet.rlib --crate-name lumbixet --test bindings/rust/src/lib.rs; fi
 	@$(RUSTC) -o target/rust/build bindings/rust/build.rs
-	@CARGO_MANIFEST_DIR=bindings/rust target/rust/build | grep -q '^cargo:rustc-link-search=native=bindings/rust/../../target/lib$$'
-	@echo "rust: the crate told the room's story, and its build script finds the archive"
+	@CARGO_MANIFEST_DIR=bindings/rust TARGET=x86_64-unknown-linux-gnu target/rust/build | grep -q '^cargo:rustc-link-search=native=bindings/rust/../../target/lib$$'
+	@if TARGET=aarch64-unknown-linux-gnu target/rust/build >/dev/null 2>target/rust/said; then echo 'rust: the build script takes another machine'; exit 1; fi
+	@grep -q 'is x86-64 code for Linux, and the target is aarch64' target/rust/said
+	@echo "rust: the crate told the room's story, and its build script finds the archive and refuses another machine"
 
 # The second implementation, linked with the archive; where that is emulated, also without it.
 PAPER_SOURCES = $(wildcard tools/paper/*.rs bindings/rust/src/raw*.rs)

@@ -6,6 +6,11 @@ use std::process::Command;
 
 fn main() {
     println!("cargo:rerun-if-env-changed=LUMBIXET_LIB_DIR");
+    let target = std::env::var("TARGET").unwrap_or_default();
+    if !(target.starts_with("x86_64-") && target.contains("-linux-")) || target.ends_with("x32") {
+        eprintln!("Lumbixet's archive is x86-64 code for Linux, and the target is {target}: choose a target such as x86_64-unknown-linux-gnu");
+        std::process::exit(1)
+    }
     let named = std::env::var_os("LUMBIXET_LIB_DIR").map(PathBuf::from);
     let found = named.map_or_else(|| built().or_else(installed), holding_it);
     let folder = found.unwrap_or_else(|| {
@@ -18,7 +23,7 @@ fn main() {
 }
 
 fn holding_it(folder: PathBuf) -> Option<PathBuf> {
-    folder.join("liblumbixet.a").is_file().then(|| folder)
+    folder.join("liblumbixet.a").is_file().then_some(folder)
 }
 
 fn built() -> Option<PathBuf> {
