@@ -1,5 +1,5 @@
 # The two commands of README.md are `make test` and `make run`; the others show the library from outside.
-.PHONY: help test emulated run picture week archive program command build host relay rust install uninstall installed paper compare bench
+.PHONY: help test emulated run picture week archive program command build host relay rust install uninstall installed dist deb packaged release paper compare bench
 
 # The archive and the programs are x86-64 code. On another processor what is linked with them is compiled for it, and emulated.
 ifeq ($(shell uname -m),x86_64)
@@ -52,6 +52,10 @@ help:
 	@echo 'make build    prove and build what is installed: the archive, the two programs and the command'
 	@echo 'make install  put them in their places, with header, pkg-config file and manual pages: PREFIX=/usr/local DESTDIR='
 	@echo 'make uninstall  take them out again'
+	@echo 'make dist     pack what a host needs without the kit: target/dist/lumbixet-VERSION-x86_64-linux.tar.xz, with its checksums'
+	@echo "make deb      the same as Debian's packages: library, headers and archive, command"
+	@echo 'make release  make the page that is signed for a release, target/dist/RELEASE.md, behind make test'
+	@echo 'make packaged  try both in an empty folder without the kit: C by pkg-config and CMake, C++, Rust by cargo, Python'
 	@echo 'make installed  try that under target/: two examples are built from there as a host does, and nothing is left'
 	@echo 'make compare  compare the programs and the archive with a second implementation that was written from the papers'
 	@echo 'make bench    compare the archive with plain C and time both, and the replay program beside the second implementation; no time is judged'
@@ -110,6 +114,18 @@ $(ARCHIVE): $(PROVED) archive/symbols.c $(wildcard include/*.h)
 	@$(NM) -g --defined-only target/lib/joined.a | awk 'NF == 3 && ($$3 !~ /^lumbixet_/ || names[$$3]++) { print "archive: " $$3; bad = 1 } END { exit bad || NR == 0 }'
 	@mv target/lib/joined.a $@
 
+# The same as a shared library, which exports the library's own names alone.
+SHARED = target/lib/liblumbixet.so.$(shell tools/so-version)
+$(SHARED): $(ARCHIVE) archive/exports.map
+	@$(CC) -shared -o $@ -Wl,--whole-archive $(ARCHIVE) -Wl,--no-whole-archive -Wl,--version-script=archive/exports.map \
+	    -Wl,-soname,$(@F) -Wl,-z,defs,-z,relro,-z,now,--build-id=none
+
+# The manual pages of section 3, from the headers.
+MANUAL = target/man/lumbixet.3
+$(MANUAL): tools/make-man3 $(wildcard include/*.h)
+	@rm -rf target/man
+	@tools/make-man3 target/man
+
 # The programs, proved where a source is newer than they are.
 PROGRAMS = target/bin/replay target/bin/week
 program: $(PROGRAMS)
@@ -126,7 +142,21 @@ $(COMMAND): $(ARCHIVE) include/lumbixet.h $(wildcard command/src/*.rs bindings/r
 	@$(RUSTC) -C opt-level=3 -C codegen-units=1 -C lto -C panic=abort --crate-name lumbixet_command \
 	    --extern lumbixet=target/command/liblumbixet.rlib -o $@ command/src/main.rs
 
-build: archive program command
+build: archive $(SHARED) program command $(MANUAL)
+
+# What is handed out: an archive for every Linux, Debian's packages, and both tried as a host would without the kit.
+dist: emulated build
+	@tools/package tar
+
+deb: emulated build
+	@tools/package deb
+
+packaged: dist deb
+	@tools/check-packages
+
+# The page that is signed, behind the gate's own line.
+release: dist deb
+	@tools/release-page
 
 # Neither proves nor builds: whoever may write to PREFIX need not have the toolchain.
 install:

@@ -16,15 +16,8 @@
  * Threads: no state is shared between calls. Any number of them may run at once; where two lend the same memory or go
  * on from the same record, the host orders them. Machine: x86-64 with the System V calling convention (Linux). The
  * archive asks for memcpy and memset alone; of the compiler C11 or C++11 is assumed.
- * Versions: patch numbers change no declaration. While MAJOR is 0, a new MINOR may add calls, constants
- * and fields, and so change the size of a struct: compile header and archive of one version. 0.2 brought lumbixet_tracker.h,
- * `confirmed` and lumbixet_confirm. 0.3 brought the totals of marks: lumbixet_packet takes the ECN field in place
- * of the CE mark, lumbixet_write takes which ACK to write, and a record is 288 bytes; one that was kept by an
- * earlier version is opened anew. 0.4 brought lumbixet_lent.h. 0.5 brought reports of 200 entries:
- * lumbixet_write_report takes the most that it may write. 0.6 brought profile 2 of the report: the calls of
- * lumbixet_report.h take the profile first, lumbixet_header holds 8 metrics, and lumbixet_entry has the group. 0.7 brought
- * lumbixet_totals.h. 0.8 brought lumbixet_newest_lost. 0.9 brought lumbixet_sent.h, 0.10 lumbixet_pieces.h. 0.11 brought the
- * version and the texts as symbols of the archive, and a type of its own for a deadline. Numbers keep their meaning.
+ * Versions: patch numbers change no declaration. While MAJOR is 0, a new MINOR may add calls, constants and fields, and so change
+ * the size of a struct: header and archive are of one version, and a mixture does not link. CHANGELOG.md says what each brought.
  */
 #ifndef LUMBIXET_H
 #define LUMBIXET_H

@@ -1,5 +1,5 @@
 //! Says where liblumbixet.a is: in the folder that LUMBIXET_LIB_DIR names; where it names none, in this checkout
-//! (`make archive`), else where pkg-config finds the installed one.
+//! (`make archive`) or beside this crate in its package, else where pkg-config finds the installed one.
 
 use std::path::{Path, PathBuf};
 use std::process::Command;
@@ -26,8 +26,10 @@ fn holding_it(folder: PathBuf) -> Option<PathBuf> {
     folder.join("liblumbixet.a").is_file().then_some(folder)
 }
 
+/// Of a checkout bindings/rust, of a package share/lumbixet/rust.
 fn built() -> Option<PathBuf> {
-    holding_it(Path::new(&std::env::var_os("CARGO_MANIFEST_DIR")?).join("../../target/lib"))
+    let here = std::env::var_os("CARGO_MANIFEST_DIR")?;
+    ["../../target/lib", "../../../lib"].iter().find_map(|folder| holding_it(Path::new(&here).join(folder)))
 }
 
 fn installed() -> Option<PathBuf> {
