@@ -72,8 +72,8 @@ def places(register):
                 yield f"{row.at()}: {link.path} does not define {link.name}"
             elif link.line and sources.defined(link.path)[link.name] != link.line:
                 yield f"{row.at()}: {link.name} stands at line {sources.defined(link.path)[link.name]} of {link.path}, not {link.line}"
-            elif not link.line and link.path.endswith(pages.NAMED) and link.name in sources.defined(link.path):
-                yield f"{row.at()}: {link.name} of {link.path} has no line"
+            elif not link.line and link.path.endswith(pages.NAMED) and not link.name.endswith(os.path.basename(link.path)):
+                yield f"{row.at()}: {link.name} of {link.path} has no line" + ("" if link.name in sources.defined(link.path) else ", and is not there")
 
 
 def proofs(register):

@@ -116,6 +116,9 @@ class Found(unittest.TestCase):
     def test_wrong_name_and_file(self):
         self.assert_found(checks.places, altered(WEEK, "[linesFrom]", "[linesUpTo]"), "does not define linesUpTo")
         self.assert_found(checks.places, altered(WEEK, "specs/Page.antt", "specs/Sheet.antt"), "does not exist")
+        cell = cell_of(WEEK, "64 KiB")
+        stray = "[unheard_of](../../crates/page/must-fail/wrong_answers_1.edit)"
+        self.assert_found(checks.places, altered(WEEK, cell, cell + f", {stray}"), "unheard_of of crates/page/must-fail/wrong_answers_1.edit has no line, and is not there")
 
     def test_guard_of_something_else(self):
         cell = cell_of(TRACKER, "Prove that total equals")
