@@ -1,5 +1,5 @@
 # The two commands of README.md are `make test` and `make run`; the others show the library from outside.
-.PHONY: help test emulated hearing run picture week archive program command build host relay rust install uninstall installed dist deb packaged release paper compare bench
+.PHONY: help test emulated hearing live run picture week archive program command build host relay rust install uninstall installed dist deb packaged release paper compare bench
 
 # The archive and the programs are x86-64 code. On another processor what is linked with them is compiled for it, and emulated.
 ifeq ($(shell uname -m),x86_64)
@@ -48,6 +48,7 @@ help:
 	@echo 'make host     prove and build the archive for hosts in C, hold the headers to it, and run the examples in C'
 	@echo 'make relay    two thousand rooms in one process, each with its own record that the calls update: counts, acknowledgments by cause, times'
 	@echo 'make hearing  simulate a hearing twelve times, with the library as receiver and with the receiver of the complaint: a table'
+	@echo 'make live     Lumbixet in a real QUIC stack, quinn-proto, fetched from Debian'\''s packages: connections in virtual time, and over UDP'
 	@echo 'make rust     build the crate for hosts in Rust (bindings/rust) and run its tests'
 	@echo 'make command  build the command of the technical desk, target/command/lumbixet'
 	@echo 'make build    prove and build what is installed: the archive, the two programs and the command'
@@ -253,6 +254,10 @@ $(HEARING): $(ARCHIVE) $(wildcard hearing/src/*.rs bindings/rust/src/*.rs)
 
 hearing: emulated $(HEARING)
 	@$(HEARING)
+
+# The archive in a real QUIC stack, which is fetched; where it cannot be had, a line says so.
+live: archive
+	@hosts/quinn/run
 
 # The second implementation, linked with the archive; where that is emulated, also without it.
 PAPER_SOURCES = $(wildcard tools/paper/*.rs bindings/rust/src/raw*.rs)
