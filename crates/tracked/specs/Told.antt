@@ -15,7 +15,7 @@ use Rattle.tracker.specs.Calls.{openRefusal, opened, among, numbersRefusal, isL
 use Rattle.tracker.specs.Status.{statusAt}
 use Rattle.tracker.specs.Report.{withStatus, totalOf, averageAt, headerOf, entriesAt, madeRefusal, reportedAs, storedUnless, reportAnswer, reportBytes}
 
--- a call and its arguments; making a report leaves the record as it is
+-- a call and its arguments, the deadline as an end: one past it, 0 for none. Making a report leaves the record as it is
 pub data Call : Type 0 where
   arrival : (object time deadline : ℕ) → Call
   earlyEnd : (object time : ℕ) → Call
@@ -57,41 +57,42 @@ orElse (came time late) other = came time late
 abbrev pub becameTold : ℕ → ℕ → List Call → Fate
 becameTold first n calls = orElse (arrivalTold first n calls) (endTold first n calls)
 
-abbrev pub knownTold : ℕ → ℕ → List Call → Known
-knownTold first interval calls = record { first = first; interval = interval; arrival = firstTold first calls; became = λ place. becameTold first (first + place) calls }
+-- ---- from an opening on: the status of an object at a time, how many have each, the average of the arrivals, and the entries
 
--- ---- the status of an object at a time, how many have each, the average of the arrivals, and the entries
+module _ (first interval : ℕ) (calls : List Call) where
+  abbrev pub knownTold : Known
+  knownTold = record { first = first; interval = interval; arrival = firstTold first calls; became = λ place. becameTold first (first + place) calls }
 
-abbrev pub statusTold : ℕ → ℕ → List Call → ℕ → ℕ → ℕ
-statusTold first interval calls time object = statusAt (knownTold first interval calls) time (object - first)
+  -- of one of the 256
+  abbrev pub statusTold : ℕ → ℕ → ℕ
+  statusTold time object = statusAt knownTold time (object - first)
 
-abbrev pub receivedTold : ℕ → ℕ → List Call → ℕ → ℕ
-receivedTold first interval calls time = withStatus (knownTold first interval calls) time 0
+  abbrev pub receivedTold : ℕ → ℕ
+  receivedTold time = withStatus knownTold time 0
 
-abbrev pub lateTold : ℕ → ℕ → List Call → ℕ → ℕ
-lateTold first interval calls time = withStatus (knownTold first interval calls) time 1
+  abbrev pub lateTold : ℕ → ℕ
+  lateTold time = withStatus knownTold time 1
 
--- lost are those not received and those received in part (003)
-abbrev pub lostTold : ℕ → ℕ → List Call → ℕ → ℕ
-lostTold first interval calls time = withStatus (knownTold first interval calls) time 2 + withStatus (knownTold first interval calls) time 3
+  -- lost are those not received and those received in part (003)
+  abbrev pub lostTold : ℕ → ℕ
+  lostTold time = withStatus knownTold time 2 + withStatus knownTold time 3
 
--- "over all objects with a status"
-abbrev pub totalTold : ℕ → ℕ → List Call → ℕ → ℕ
-totalTold first interval calls time = totalOf (knownTold first interval calls) time
+  -- "over all objects with a status"
+  abbrev pub totalTold : ℕ → ℕ
+  totalTold time = totalOf knownTold time
 
-abbrev pub averageTold : ℕ → ℕ → List Call → ℤ
-averageTold first interval calls = averageAt (knownTold first interval calls)
+  abbrev pub averageTold : ℤ
+  averageTold = averageAt knownTold
 
-abbrev pub summaryTold : ℕ → ℕ → List Call → ℕ → ℕ → Header
-summaryTold first interval calls time reportInterval =
-    headerOf time reportInterval (totalTold first interval calls time) (receivedTold first interval calls time) (lateTold first interval calls time) (lostTold first interval calls time) (averageTold first interval calls)
+  abbrev pub summaryTold : ℕ → ℕ → Header
+  summaryTold time reportInterval = headerOf time reportInterval (totalTold time) (receivedTold time) (lateTold time) (lostTold time) averageTold
 
-abbrev pub entriesTold : ℕ → ℕ → List Call → ℕ → List ℕ
-entriesTold first interval calls time = entriesAt (knownTold first interval calls) time
+  abbrev pub entriesTold : ℕ → List ℕ
+  entriesTold time = entriesAt knownTold time
 
--- what a report is refused with
-abbrev pub refusalTold : ℕ → ℕ → List Call → ℕ → ℕ → ℕ → ℕ
-refusalTold first interval calls time reportInterval room = madeRefusal (knownTold first interval calls) time reportInterval room
+  -- what a report is refused with
+  abbrev pub refusalTold : ℕ → ℕ → ℕ → ℕ
+  refusalTold time reportInterval room = madeRefusal knownTold time reportInterval room
 
 -- "Prove that total equals the three parts, each defined from the arrivals"
 abbrev pub TotalIsParts : Type 0
@@ -99,7 +100,7 @@ TotalIsParts =
     (first interval : ℕ) (calls : List Call) (time : ℕ)
     → totalTold first interval calls time ≡ receivedTold first interval calls time + lateTold first interval calls time + lostTold first interval calls time
 
--- ---- from every accepted opening on
+-- ---- so it is from every accepted opening on
 
 -- the record after the calls, refused ones included: each is given what the call before left
 unfoldable pub after : List ℕ → List Call → List ℕ
