@@ -1,5 +1,5 @@
 # The two commands of README.md are `make test` and `make run`; the others show the library from outside.
-.PHONY: help test emulated run picture week archive program command build host relay rust install uninstall installed dist deb packaged release paper compare bench
+.PHONY: help test emulated hearing live run picture week archive program command build host relay rust install uninstall installed dist deb packaged release paper compare bench
 
 # The archive and the programs are x86-64 code. On another processor what is linked with them is compiled for it, and emulated.
 ifeq ($(shell uname -m),x86_64)
@@ -47,6 +47,8 @@ help:
 	@echo "make week     prove the week's program and print the page of the bundled week"
 	@echo 'make host     prove and build the archive for hosts in C, hold the headers to it, and run the examples in C'
 	@echo 'make relay    two thousand rooms in one process, each with its own record that the calls update: counts, acknowledgments by cause, times'
+	@echo 'make hearing  simulate a hearing twelve times, with the library as receiver and with the receiver of the complaint: a table'
+	@echo 'make live     Lumbixet in a real QUIC stack, quinn-proto, fetched from Debian'\''s packages: connections in virtual time, and over UDP'
 	@echo 'make rust     build the crate for hosts in Rust (bindings/rust) and run its tests'
 	@echo 'make command  build the command of the technical desk, target/command/lumbixet'
 	@echo 'make build    prove and build what is installed: the archive, the two programs and the command'
@@ -77,7 +79,7 @@ run: emulated
 	@echo
 	@echo 'That was the bundled hearing, a line for each record. It is drawn in examples/hearing.svg; README.md says what to read on.'
 
-picture: emulated command
+picture: emulated command $(HEARING)
 	@tools/prove week
 	@$(COMMAND) replay --picture target/hearing.svg examples/hearing.trace > target/hearing.lines
 	@mv target/hearing.svg examples/hearing.svg
@@ -86,7 +88,9 @@ picture: emulated command
 	@mv target/week.svg examples/week.svg
 	@python3 tools/draw-objects examples/objects.expected > target/objects.svg
 	@mv target/objects.svg examples/objects.svg
-	@echo 'picture: examples/hearing.svg, examples/week.svg and examples/objects.svg'
+	@$(HEARING) picture > target/hearing/picture.svg
+	@mv target/hearing/picture.svg hearing/picture.svg
+	@echo 'picture: examples/hearing.svg, examples/week.svg, examples/objects.svg and hearing/picture.svg'
 
 week: emulated
 	@tools/prove week
@@ -240,6 +244,20 @@ rust: emulated archive
 	@if TARGET=aarch64-unknown-linux-gnu target/rust/build >/dev/null 2>target/rust/said; then echo 'rust: the build script takes another machine'; exit 1; fi
 	@grep -q 'is x86-64 code for Linux, and the target is aarch64' target/rust/said
 	@echo "rust: the crate told the room's story, and its build script finds the archive and refuses another machine"
+
+# The simulated hearing, over the crate; its table is the same in every run.
+HEARING = target/hearing/lumbixet-hearing
+$(HEARING): $(ARCHIVE) $(wildcard hearing/src/*.rs bindings/rust/src/*.rs)
+	@mkdir -p target/hearing
+	@$(RUSTC) -O --crate-type rlib --crate-name lumbixet -o target/hearing/liblumbixet.rlib bindings/rust/src/lib.rs
+	@$(RUSTC) -O -D warnings --extern lumbixet=target/hearing/liblumbixet.rlib -o $@ hearing/src/main.rs
+
+hearing: emulated $(HEARING)
+	@$(HEARING)
+
+# The archive in a real QUIC stack, which is fetched; where it cannot be had, a line says so.
+live: archive
+	@hosts/quinn/run
 
 # The second implementation, linked with the archive; where that is emulated, also without it.
 PAPER_SOURCES = $(wildcard tools/paper/*.rs bindings/rust/src/raw*.rs)
