@@ -75,6 +75,8 @@ fn numbers_written() {
     calls::put_two_in(37, 15293, 4);
     calls::put_two_in(37, 4611686018427387904, 9);
     calls::put_two_in(37, 4611686018427387904, 0);
+    calls::length_of_two(37, 15293);
+    calls::length_of_two(37, 4611686018427387904);
 }
 
 fn fixed_read() {
@@ -286,6 +288,7 @@ fn main() {
     ack_read();
     ack_below_zero();
     ack_before_room();
+    calls::ack_checked();
     ack_counts();
     frames_written();
     thresholds_heard();
