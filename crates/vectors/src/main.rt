@@ -160,6 +160,7 @@ fn ack_before_room() {
     show::text(b"\nThe whole frame is checked before the room: a range count of 2^62 - 1\n");
     calls::read_ack0(b"\x02\x05\x00\x01\x02");
     calls::read_ack0(b"\x02\x05\x00\x01\x04\x02");
+    calls::read_ack0(b"\x02\x05\x00\x00\x06");
     calls::read_ack0(b"\x02\x05\x00\xff\xff\xff\xff\xff\xff\xff\xff\x05");
     calls::read_ack0(b"\x02\x05\x00\xff\xff\xff\xff\xff\xff\xff\xff\x05\x00");
 }
