@@ -57,7 +57,7 @@ pub const CAN_GIVE: [(&str, &[u64]); 52] = [
 ];
 
 /// What must have happened in accepted and refused calls beyond their results.
-pub const MOMENTS: [&str; 205] = [
+pub const MOMENTS: [&str; 207] = [
     "1 for nothing but a floor above L",
     "1 for nothing but a floor while nothing was received",
     "7 though it was received and lies within 1,024 of L",
@@ -263,4 +263,6 @@ pub const MOMENTS: [&str; 205] = [
     "a piece that ends in a report",
     "a piece that ends while a long report is skipped",
     "a page of 2 alone",
+    "a page that just fits",
+    "9 for a room that lacks one byte",
 ];
