@@ -5,13 +5,14 @@ use mathlib.Core.Path.{_≡_, refl, sym, ap, _∙_}
 use mathlib.Core.Bool.{true, false}
 use mathlib.Core.List.{List, [], _∷_, _++_}
 use native.Mathlib.Omega.{arith}
-use borrow.Author.Tests.{le-leb, lt-ltb, le-ltb, ne-eqb}
+use borrow.Author.Tests.{le-leb, ne-eqb}
 use mir.Syntax.{w64}
 use mir.Val.{SFits, ofZ}
-use lib.Dec.{eqb, ltb}
+use lib.Dec.{eqb}
 use lib.IntN.{ℤ, pos, negsuc}
 use lib.ListN.{length, take, drop, length-take, length-drop, length-append, take-append-drop}
 use lib.Seq.{take-at, take-nil, take-append-add}
+use Rattle.libc.specs.Io.{Moved}
 use Rattle.io.specs.Counts.{clamped}
 use Rattle.wire.specs.Bytes.{pick}
 use Rattle.totals.specs.declared.Taken.{Taken}
@@ -20,7 +21,7 @@ use Rattle.page.specs.Page.{printed}
 use Rattle.page.proofs.Cutting.{left-short, page-in-pieces}
 use Rattle.page.specs.Pieces as pieces
 use Rattle.week.specs.declared.Place.{Place}
-use Rattle.week.specs.Turn.{gave, atEnd, least, standing, came, Took, Read, Turned, Reads, begun, next, piecesOf, HasRead, toPrint, Printed}
+use Rattle.week.specs.Turn.{atEnd, many, least, standing, came, Took, Read, Turned, Reads, begun, next, piecesOf, HasRead, toPrint, Printed}
 
 drop-take : (u e : ℕ) (l : List ℕ) → u ≤ e → drop u (take e l) ≡ take (e - u) (drop u l)
 drop-take zero e l h = let k : e - 0 ≡ e = omega arith in rw k
@@ -70,23 +71,21 @@ end-by-bits (pos zero) f = refl
 end-by-bits (pos (suc n)) f = ne-eqb (suc n) 0 (λ e. omega arith)
 end-by-bits (negsuc n) f = ne-eqb (2 ^ 64 - suc n) 0 (λ e. omega (arith, f .sfits))
 
--- where there is room, it gives a byte or more, or it answers that it gave none
-pub some-came : (got : ℤ) (zs : List ℕ) → 0 < length zs → gave got ≡ ltb 0 (length (take (clamped got (length zs)) zs))
-some-came (pos zero) zs h = sym (le-ltb 0 (length (take (clamped (pos zero) (length zs)) zs)) (simp length-take (omega arith)))
-some-came (pos (suc n)) zs h = lt-ltb 0 (suc n) (omega arith) ∙ sym (lt-ltb 0 (length (take (clamped (pos (suc n)) (length zs)) zs)) (simp length-take (omega arith)))
-some-came (negsuc n) zs h = refl
+-- as many bytes as it answered
+came-many : (got : ℤ) (zs : List ℕ) → Moved (length zs) got → length (take (clamped got (length zs)) zs) ≡ many got
+came-many (pos n) zs m = simp length-take (omega arith)
+came-many (negsuc n) zs m = refl
 
--- us is what the read left of the part that it was lent
-pub turned-by : (p : Place) {r : Place} (xs us : List ℕ) {ys : List ℕ} {got : ℤ} → p .left < length xs → length us ≡ length xs - p .left
-    → Took p (take (p .left) xs ++ us) got r ys → Turned p xs r ys
-turned-by p {r} xs us {ys} {got} h l t =
+-- us is what the read left of the part that it was lent, answer what it answered, and got the same as it is handed on
+pub turned-by : (p : Place) {r : Place} (xs us : List ℕ) {ys : List ℕ} {got answer : ℤ} → p .left ≤ length xs → length us ≡ length xs - p .left
+    → got ≡ answer → Moved (length us) answer → Took p (take (p .left) xs ++ us) got r ys → Turned p xs r ys
+turned-by p {r} xs us {ys} {got} h l g m t =
     let zs = take (p .left) xs ++ us in
     let n : length (take (p .left) xs) ≡ p .left = simp length-take (omega arith) in
-    let m : 0 < length (drop (p .left) zs) = simp length-drop (omega (arith, length-append (take (p .left) xs) us)) in
+    let d : length (drop (p .left) zs) ≡ length us = simp length-drop (omega (arith, length-append (take (p .left) xs) us)) in
     let e : standing p zs ≡ standing p xs = rw (take-at (take (p .left) xs) us (p .left) n) in
     record {
-      read = record { got = got; bytes = came p zs got };
-      some = some-came got (drop (p .left) zs) m;
+      read = record { got = got; bytes = came p zs got; as-many = came-many got (drop (p .left) zs) (rw (d, g) m) };
       turned = t .turned ∙ ap (λ (s : pieces.Place). pieces.turn s (came p zs got)) e;
       within = t .within;
       goes-on = t .goes-on;
@@ -122,7 +121,7 @@ reached-more {p} {r} {xs} {ys} {turns} a m h t =
     let l : length (take (r .left) ys) < least = rw (ap (λ (s : pieces.Place). length (s .left)) e) (left-short (pieces.turns pieces.opened (piecesOf rs)) (t .read .bytes)) in
     record {
       reads = rs ++ (t .read ∷ []);
-      in-order = rw (t .goes-on, t .ends) (next (rw m at (a .in-order)) (t .read) (t .some));
+      in-order = rw (t .goes-on, t .ends) (next (rw m at (a .in-order)) (t .read));
       counted = omega (arith, length-append rs (t .read ∷ []), a .counted);
       reached = e ∙ sym (turns-more rs pieces.opened (t .read));
       within = t .within;

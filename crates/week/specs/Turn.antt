@@ -4,7 +4,6 @@ use Prim.Native.Nat.{ℕ, zero, suc, _+_, _-_, _^_, _≤_}
 use mathlib.Core.Path.{_≡_}
 use mathlib.Core.Bool.{Bool, true, false}
 use mathlib.Core.List.{List, [], _∷_, _++_}
-use lib.Dec.{ltb}
 use lib.IntN.{ℤ, pos, negsuc}
 use lib.Signed.{ltZ}
 use lib.ListN.{length, take, drop}
@@ -18,15 +17,20 @@ use Rattle.week.specs.declared.Place.{Place}
 
 -- ---- one read
 
--- `read` answers how many bytes it gave
+-- `read` answers how many bytes it gave: a byte or more
 abbrev pub gave : ℤ → Bool
 gave got = ltZ (pos 0) got
 
--- and 0 at the end of the input; less than 0 is a read that failed
+-- or 0 at the end of the input; less than 0 is a read that failed
 abbrev pub atEnd : ℤ → Bool
 atEnd (pos zero) = true
 atEnd (pos (suc n)) = false
 atEnd (negsuc n) = false
+
+-- how many bytes it gave
+abbrev pub many : ℤ → ℕ
+many (pos n) = n
+many (negsuc n) = 0
 
 -- ---- one turn
 
@@ -49,15 +53,15 @@ pub record Took (p : Place) (xs : List ℕ) (got : ℤ) (r : Place) (ys : List �
   pub goes-on : r .more ≡ gave got
   pub ends : r .ended ≡ atEnd got
 
--- a read: what it answered, and the bytes that it gave
+-- a read: what it answered, and the bytes that it gave, as many as it answered
 pub record Read : Type 0 where
   pub got : ℤ
   pub bytes : List ℕ
+  pub as-many : length bytes ≡ many got
 
 -- xs is the buffer before the read
 pub record Turned (p : Place) (xs : List ℕ) (r : Place) (ys : List ℕ) : Type 0 where
   pub read : Read
-  pub some : gave (read .got) ≡ ltb 0 (length (read .bytes))
   pub turned : standing r ys ≡ pieces.turn (standing p xs) (read .bytes)
   pub within : r .left ≤ length ys
   pub goes-on : r .more ≡ gave (read .got)
@@ -68,8 +72,7 @@ pub record Turned (p : Place) (xs : List ℕ) (r : Place) (ys : List ℕ) : Type
 -- reads one after the other, each but the last of a byte or more; whether there may be more, and whether the input has ended
 pub data Reads : List Read → Bool → Bool → Type 0 where
   begun : Reads [] true false
-  next : {rs : List Read} {ended : Bool} → Reads rs true ended → (r : Read) → gave (r .got) ≡ ltb 0 (length (r .bytes))
-      → Reads (rs ++ (r ∷ [])) (gave (r .got)) (atEnd (r .got))
+  next : {rs : List Read} {ended : Bool} → Reads rs true ended → (r : Read) → Reads (rs ++ (r ∷ [])) (gave (r .got)) (atEnd (r .got))
 
 abbrev pub piecesOf : List Read → List (List ℕ)
 piecesOf [] = []

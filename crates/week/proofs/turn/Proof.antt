@@ -4,6 +4,8 @@ use Prim.Native.Nat.{_-_}
 use mathlib.Core.Path.{_≡_}
 use mathlib.Core.List.{_++_}
 use native.Mathlib.Omega.{arith}
+use mir.Syntax.{w64}
+use mir.ValLaws.{toZ-ofZ}
 use lib.ListN.{length, take, drop, length-append, length-drop}
 use borrow.Author.Needs.{needs}
 use Rattle.week.proofs.Turning.{part-long, turned-by}
@@ -36,7 +38,9 @@ returns c =
     let l = a .place .left in
     let k : length (r .last .1 .0) ≡ length (take (length xs - l) (drop l xs)) = search needs in
     let us = r .last .1 .0 ++ drop (length xs - l) (drop l xs) in
-    turned-by (a .place) xs us (search needs) (omega (arith, k, part-long l xs, length-drop l xs, length-drop (length xs - l) (drop l xs), length-append (r .last .1 .0) (drop (length xs - l) (drop l xs)))) (c .before .before .took .ensures)
+    let n : length us ≡ length (take (length xs - l) (drop l xs)) =
+    omega (arith, k, length-drop (length xs - l) (drop l xs), length-drop l xs, length-append (r .last .1 .0) (drop (length xs - l) (drop l xs))) in
+    turned-by (a .place) xs us (search needs) (omega (arith, n, part-long l xs, length-drop l xs)) (toZ-ofZ w64 (r .result) (search needs)) (rw n (r .ensures)) (c .before .before .took .ensures)
 
 pub turn-spec : {M : Type 1} → statement M
 turn-spec =
