@@ -2,6 +2,7 @@
 // Carries "the rest and RFC 9000's published vectors run in a test program" of document 01, "Settled examples".
 // What it must write stands in the file stdout, which was written from the papers and not from this program.
 mod calls;
+mod direct;
 mod show;
 
 use calls::Reader;
@@ -288,6 +289,7 @@ fn main() {
     ack_before_room();
     ack_counts();
     frames_written();
+    direct::at_the_ends();
     thresholds_heard();
     congestion();
     confirmations();
