@@ -90,7 +90,7 @@ def known(path):
 @functools.lru_cache(maxsize=None)
 def modules(path):
     """The files that a file brings in whole, by the name that each has there: `use .. as name`."""
-    return {name: file_of(crate, kind, module) for crate, kind, module, name in re.findall(rf"{USE} as ({NAME})$", read(path), re.M)}
+    return {name: file_of(crate, kind, module) for crate, kind, module, name in re.findall(rf"{USE} as ({NAME});?$", read(path), re.M)}
 
 
 def mentioned(text, path):
