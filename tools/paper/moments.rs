@@ -57,7 +57,7 @@ pub const CAN_GIVE: [(&str, &[u64]); 52] = [
 ];
 
 /// What must have happened in accepted and refused calls beyond their results.
-pub const MOMENTS: [&str; 207] = [
+pub const MOMENTS: [&str; 209] = [
     "1 for nothing but a floor above L",
     "1 for nothing but a floor while nothing was received",
     "7 though it was received and lies within 1,024 of L",
@@ -74,6 +74,8 @@ pub const MOMENTS: [&str; 207] = [
     "1 for nothing but a total of unmarked ones above its limit",
     "a total that reaches 2^62 - 1",
     "a total that stays at 2^62 - 1",
+    "N becomes 2^62",
+    "N stays at 2^62",
     "a mark counted of a packet that is not ack-eliciting",
     "a mark with other bits above it",
     "ECT(0) counted",
