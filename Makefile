@@ -1,5 +1,5 @@
 # The two commands of README.md are `make test` and `make run`; the others show the library from outside.
-.PHONY: help test emulated run picture week archive program command build host relay rust install uninstall installed paper compare wrong bench
+.PHONY: help test emulated hearing live run picture week archive program command build host relay rust install uninstall installed dist deb packaged release paper compare wrong bench
 
 # The archive and the programs are x86-64 code. On another processor what is linked with them is compiled for it, and emulated.
 ifeq ($(shell uname -m),x86_64)
@@ -17,8 +17,9 @@ RUSTDOC = /usr/bin/rustdoc --target x86_64-unknown-linux-gnu -C linker=$(CC)
 PAPER_AND_ARCHIVE = target/paper/paper-and-archive
 endif
 CFLAGS = -std=c11 -Wall -Wextra -Wpedantic -Werror -O2 -Iinclude
-# The archive as hosts link it, and the crates whose archives are joined in it.
+# The archive as hosts link it, what of it is proved, and the crates whose archives are joined in that.
 ARCHIVE = target/lib/liblumbixet.a
+PROVED = target/lib/proved.a
 EXPORTS = host host_codec host_report host_entry host_writer host_newest host_pieces host_tracker host_totals host_sent lent
 SOURCES = crates.txt $(shell find crates -name '*.rt' -o -name '*.antt')
 PAPER = target/paper/paper
@@ -46,11 +47,17 @@ help:
 	@echo "make week     prove the week's program and print the page of the bundled week"
 	@echo 'make host     prove and build the archive for hosts in C, hold the headers to it, and run the examples in C'
 	@echo 'make relay    two thousand rooms in one process, each with its own record that the calls update: counts, acknowledgments by cause, times'
+	@echo 'make hearing  simulate a hearing twelve times, with the library as receiver and with the receiver of the complaint: a table'
+	@echo 'make live     Lumbixet in a real QUIC stack, quinn-proto, fetched from Debian'\''s packages: connections in virtual time, and over UDP'
 	@echo 'make rust     build the crate for hosts in Rust (bindings/rust) and run its tests'
 	@echo 'make command  build the command of the technical desk, target/command/lumbixet'
 	@echo 'make build    prove and build what is installed: the archive, the two programs and the command'
 	@echo 'make install  put them in their places, with header, pkg-config file and manual pages: PREFIX=/usr/local DESTDIR='
 	@echo 'make uninstall  take them out again'
+	@echo 'make dist     pack what a host needs without the kit: target/dist/lumbixet-VERSION-x86_64-linux.tar.xz, with its checksums'
+	@echo "make deb      the same as Debian's packages: library, headers and archive, command"
+	@echo 'make release  make the page that is signed for a release, target/dist/RELEASE.md, behind make test'
+	@echo 'make packaged  try both in an empty folder without the kit: C by pkg-config and CMake, C++, Rust by cargo, Python'
 	@echo 'make installed  try that under target/: two examples are built from there as a host does, and nothing is left'
 	@echo 'make compare  compare the programs and the archive with a second implementation that was written from the papers'
 	@echo 'make wrong    run each wrong answer that the gate tries: it must answer something else than the second implementation, and each harmless change the same'
@@ -64,15 +71,17 @@ emulated:
 	@tools/emulate
 
 run: emulated
-	@echo 'Proving the replay program and what it stands on. The first time this takes some minutes; what is proved says so.'
-	@rt check replay
+	@echo 'Proving the replay program and what it stands on. The first time this takes some minutes.'
+	@tools/prove replay
 	@echo
 	@echo 'Replaying examples/hearing.trace: index, result (0 accepted, else the refusal), cause (0 nothing is due).'
 	@echo
 	@target/bin/replay < examples/hearing.trace
+	@echo
+	@echo 'That was the bundled hearing, a line for each record. It is drawn in examples/hearing.svg; README.md says what to read on.'
 
-picture: emulated command
-	@rt check week
+picture: emulated command $(HEARING)
+	@tools/prove week
 	@$(COMMAND) replay --picture target/hearing.svg examples/hearing.trace > target/hearing.lines
 	@mv target/hearing.svg examples/hearing.svg
 	@target/bin/week < examples/week.reports > target/week.lines
@@ -80,10 +89,12 @@ picture: emulated command
 	@mv target/week.svg examples/week.svg
 	@python3 tools/draw-objects examples/objects.expected > target/objects.svg
 	@mv target/objects.svg examples/objects.svg
-	@echo 'picture: examples/hearing.svg, examples/week.svg and examples/objects.svg'
+	@$(HEARING) picture > target/hearing/picture.svg
+	@mv target/hearing/picture.svg hearing/picture.svg
+	@echo 'picture: examples/hearing.svg, examples/week.svg, examples/objects.svg and hearing/picture.svg'
 
 week: emulated
-	@rt check week
+	@tools/prove week
 	@echo
 	@echo 'The page of examples/week.reports:'
 	@echo
@@ -91,21 +102,41 @@ week: emulated
 
 archive: $(ARCHIVE)
 
-# Building the archive proves its crates again, so it is built only where a source is newer. Each name in it is one of the library's, and stands there once.
-$(ARCHIVE): $(SOURCES) Makefile
+# Building it proves its crates again, so it is built only where a source is newer.
+$(PROVED): $(SOURCES) Makefile
+	@tools/kit
 	@set -e; for crate in $(EXPORTS); do rt staticlib $$crate; done
 	@mkdir -p target/lib
 	@rm -f $@ target/lib/joined.a
 	@{ echo create target/lib/joined.a; for crate in $(EXPORTS); do echo addlib target/staticlib/lib$$crate.a; done; echo save; echo end; } | $(AR) -M
+	@mv target/lib/joined.a $@
+
+# With the version and the texts, which are C. Each name in it is one of the library's, and stands there once.
+$(ARCHIVE): $(PROVED) archive/symbols.c $(wildcard include/*.h)
+	@$(CC) $(CFLAGS) -fPIC -c archive/symbols.c -o target/lib/symbols.o
+	@cp $(PROVED) target/lib/joined.a
+	@$(AR) qD target/lib/joined.a target/lib/symbols.o
 	@$(NM) -g --defined-only target/lib/joined.a | awk 'NF == 3 && ($$3 !~ /^lumbixet_/ || names[$$3]++) { print "archive: " $$3; bad = 1 } END { exit bad || NR == 0 }'
 	@mv target/lib/joined.a $@
+
+# The same as a shared library, which exports the library's own names alone.
+SHARED = target/lib/liblumbixet.so.$(shell tools/so-version)
+$(SHARED): $(ARCHIVE) archive/exports.map
+	@$(CC) -shared -o $@ -Wl,--whole-archive $(ARCHIVE) -Wl,--no-whole-archive -Wl,--version-script=archive/exports.map \
+	    -Wl,-soname,$(@F) -Wl,-z,defs,-z,relro,-z,now,--build-id=none
+
+# The manual pages of section 3, from the headers.
+MANUAL = target/man/lumbixet.3
+$(MANUAL): tools/make-man3 $(wildcard include/*.h)
+	@rm -rf target/man
+	@tools/make-man3 target/man
 
 # The programs, proved where a source is newer than they are.
 PROGRAMS = target/bin/replay target/bin/week
 program: $(PROGRAMS)
 
 $(PROGRAMS): $(SOURCES)
-	@rt check $(@F)
+	@tools/prove $(@F)
 
 # The command, by rustc alone as the crate is. It is built whole, so that the crate's calls are in line.
 command: emulated $(COMMAND)
@@ -116,7 +147,21 @@ $(COMMAND): $(ARCHIVE) include/lumbixet.h $(wildcard command/src/*.rs bindings/r
 	@$(RUSTC) -C opt-level=3 -C codegen-units=1 -C lto -C panic=abort --crate-name lumbixet_command \
 	    --extern lumbixet=target/command/liblumbixet.rlib -o $@ command/src/main.rs
 
-build: archive program command
+build: archive $(SHARED) program command $(MANUAL)
+
+# What is handed out: an archive for every Linux, Debian's packages, and both tried as a host would without the kit.
+dist: emulated build
+	@tools/package tar
+
+deb: emulated build
+	@tools/package deb
+
+packaged: dist deb
+	@tools/check-packages
+
+# The page that is signed, behind the gate's own line.
+release: dist deb
+	@tools/release-page
 
 # Neither proves nor builds: whoever may write to PREFIX need not have the toolchain.
 install:
@@ -148,6 +193,7 @@ host: emulated archive
 	@target/host/check-sent
 	@$(CC) $(CFLAGS) tools/check-pieces.c $(ARCHIVE) -o target/host/check-pieces
 	@target/host/check-pieces
+	@CC='$(CC)' tools/check-version
 	@if command -v $(CXX) >/dev/null; then \
 	    printf '#include "lumbixet_lent.h"\n#include "lumbixet.h"\n#include "lumbixet_tracker.h"\n#include "lumbixet_totals.h"\n#include "lumbixet_sent.h"\n#include "lumbixet_pieces.h"\n' | $(CXX) -std=c++11 -Wall -Wextra -Wpedantic -Werror -Iinclude -fsyntax-only -x c++ -; fi
 	@set -e; for page in DRIVING TRACKING SENDING UNCUT; do \
@@ -185,18 +231,34 @@ relay: emulated archive
 
 # The crate for hosts in Rust and its tests, by rustc alone, which needs no network and no registry.
 rust: emulated archive
-	@mkdir -p target/rust
+	@mkdir -p target/rust/std
 	@$(RUSTC) -O --crate-type rlib --crate-name lumbixet -o target/rust/liblumbixet.rlib bindings/rust/src/lib.rs
-	@$(RUSTC) --crate-type rlib --crate-name lumbixet --cfg 'feature="std"' -o target/rust/with-std.rlib bindings/rust/src/lib.rs
-	@set -e; for test in room edges objects rooms profiles pieces week sending; do \
-	    $(RUSTC) --test --extern lumbixet=target/rust/liblumbixet.rlib -o target/rust/$$test bindings/rust/tests/$$test.rs; \
+	@$(RUSTC) --crate-type rlib --crate-name lumbixet --cfg 'feature="std"' -o target/rust/std/liblumbixet.rlib bindings/rust/src/lib.rs
+	@set -e; for test in room edges objects rooms profiles pieces week sending errors; do \
+	    $(RUSTC) --test --extern lumbixet=target/rust/std/liblumbixet.rlib -o target/rust/$$test bindings/rust/tests/$$test.rs; \
 	    target/rust/$$test -q; \
 	done
 	@if command -v $(firstword $(RUSTDOC)) >/dev/null; then \
 	    $(RUSTDOC) --edition 2021 -L target/lib --extern lumbixet=target/rust/liblumbixet.rlib --crate-name lumbixet --test bindings/rust/src/lib.rs; fi
 	@$(RUSTC) -o target/rust/build bindings/rust/build.rs
-	@CARGO_MANIFEST_DIR=bindings/rust target/rust/build | grep -q '^cargo:rustc-link-search=native=bindings/rust/../../target/lib$$'
-	@echo "rust: the crate told the room's story, and its build script finds the archive"
+	@CARGO_MANIFEST_DIR=bindings/rust TARGET=x86_64-unknown-linux-gnu target/rust/build | grep -q '^cargo:rustc-link-search=native=bindings/rust/../../target/lib$$'
+	@if TARGET=aarch64-unknown-linux-gnu target/rust/build >/dev/null 2>target/rust/said; then echo 'rust: the build script takes another machine'; exit 1; fi
+	@grep -q 'is x86-64 code for Linux, and the target is aarch64' target/rust/said
+	@echo "rust: the crate told the room's story, and its build script finds the archive and refuses another machine"
+
+# The simulated hearing, over the crate; its table is the same in every run.
+HEARING = target/hearing/lumbixet-hearing
+$(HEARING): $(ARCHIVE) $(wildcard hearing/src/*.rs bindings/rust/src/*.rs)
+	@mkdir -p target/hearing
+	@$(RUSTC) -O --crate-type rlib --crate-name lumbixet -o target/hearing/liblumbixet.rlib bindings/rust/src/lib.rs
+	@$(RUSTC) -O -D warnings --extern lumbixet=target/hearing/liblumbixet.rlib -o $@ hearing/src/main.rs
+
+hearing: emulated $(HEARING)
+	@$(HEARING)
+
+# The archive in a real QUIC stack, which is fetched; where it cannot be had, a line says so.
+live: archive
+	@hosts/quinn/run
 
 # The second implementation, linked with the archive; where that is emulated, also without it.
 PAPER_SOURCES = $(wildcard tools/paper/*.rs bindings/rust/src/raw*.rs)

@@ -27,7 +27,9 @@ static void compare_tracker_call(uint64_t first, uint64_t *clock)
 {
     uint64_t object = below(8) ? first + below(below(2) ? 12 : 258) - below(2) : any_number();
     uint64_t time = below(8) ? *clock : any_number();
-    uint64_t deadline = below(2) ? 0 : below(8) ? lumbixet_deadline(time + below(3) - 1) : any_number();
+    lumbixet_deadline deadline = below(2) ? lumbixet_no_deadline() : lumbixet_deadline_at(time + below(3) - 1);
+    if (below(8) == 0)
+        deadline.end = any_number();
     if (below(4) == 0)
         compare_words(archive.tracker_ended_early(&one, object, time), plain.tracker_ended_early(&other, object, time),
                       "tracker_ended_early");

@@ -38,7 +38,7 @@ lumbixet_written plain_write_report(uint64_t profile, uint8_t *buffer, size_t le
                                     const uint8_t *records, size_t records_length, uint64_t maximum);
 
 uint64_t plain_tracker_open(lumbixet_tracker *tracker, uint64_t first, uint64_t interval);
-uint64_t plain_tracker_arrived(lumbixet_tracker *tracker, uint64_t object, uint64_t time, uint64_t deadline);
+uint64_t plain_tracker_arrived(lumbixet_tracker *tracker, uint64_t object, uint64_t time, lumbixet_deadline deadline);
 uint64_t plain_tracker_ended_early(lumbixet_tracker *tracker, uint64_t object, uint64_t time);
 lumbixet_report plain_tracker_report(const lumbixet_tracker *tracker, uint64_t time, uint64_t interval, uint8_t *entries,
                                      size_t length);

@@ -51,9 +51,9 @@ uint64_t plain_tracker_open(lumbixet_tracker *tracker, uint64_t first, uint64_t 
     return LUMBIXET_ACCEPTED;
 }
 
-uint64_t plain_tracker_arrived(lumbixet_tracker *tracker, uint64_t object, uint64_t time, uint64_t deadline)
+uint64_t plain_tracker_arrived(lumbixet_tracker *tracker, uint64_t object, uint64_t time, lumbixet_deadline deadline)
 {
-    uint64_t refusal = object_refusal(tracker, object, time, deadline);
+    uint64_t refusal = object_refusal(tracker, object, time, deadline.end);
     if (refusal != LUMBIXET_ACCEPTED)
         return refusal;
     uint64_t place = object - tracker->first;
@@ -61,7 +61,7 @@ uint64_t plain_tracker_arrived(lumbixet_tracker *tracker, uint64_t object, uint6
         return LUMBIXET_ACCEPTED;
     if (tracker->named == 0)
         tracker->named = place + 1;
-    uint64_t state = deadline != 0 && time >= deadline ? LATE : RECEIVED;
+    uint64_t state = deadline.end != 0 && time >= deadline.end ? LATE : RECEIVED;
     tracker->objects[place] = state << 62 | time;
     return LUMBIXET_ACCEPTED;
 }

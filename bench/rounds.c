@@ -167,10 +167,10 @@ double arrive_objects(const struct side *side, int kind, int round)
     uint64_t sum = 0, passed = 0;
     for (size_t time = 0; time < 8; time++) {
         side->tracker_open(&tracker, 1000, 20000);
-        sum += side->tracker_arrived(&tracker, 1000, 0, 0);
+        sum += side->tracker_arrived(&tracker, 1000, 0, lumbixet_no_deadline());
         uint64_t from = now();
         for (uint64_t i = 1; i < LUMBIXET_TRACKED; i++)
-            sum += side->tracker_arrived(&tracker, 1000 + i, 20000 * i, 20000 * i + (i % 7 ? 5 : 0));
+            sum += side->tracker_arrived(&tracker, 1000 + i, 20000 * i, lumbixet_deadline_at(20000 * i + (i % 7 ? 4 : -1)));
         passed += since(from);
     }
     sink += sum + tracker.objects[255];
@@ -185,7 +185,7 @@ double report_objects(const struct side *side, int kind, int round)
     uint64_t sum = 0;
     side->tracker_open(&tracker, 1000, 20000);
     for (uint64_t i = kind ? 255 : 0; i < LUMBIXET_TRACKED; i++)
-        side->tracker_arrived(&tracker, 1000 + i, 20000 * i, 20000 * i + (i % 7 ? 5 : 0));
+        side->tracker_arrived(&tracker, 1000 + i, 20000 * i, lumbixet_deadline_at(20000 * i + (i % 7 ? 4 : -1)));
     uint64_t from = now();
     for (uint64_t i = 0; i < 64; i++)
         sum += side->tracker_report(&tracker, 6000000 + i + (uint64_t)round, 100000, entries, sizeof entries).header.total + entries[15];

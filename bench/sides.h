@@ -30,7 +30,7 @@ struct side {
     lumbixet_newest (*newest_lost)(uint64_t, const uint8_t *, size_t);
     lumbixet_written (*write_report)(uint64_t, uint8_t *, size_t, lumbixet_header, const uint8_t *, size_t, uint64_t);
     uint64_t (*tracker_open)(lumbixet_tracker *, uint64_t, uint64_t);
-    uint64_t (*tracker_arrived)(lumbixet_tracker *, uint64_t, uint64_t, uint64_t);
+    uint64_t (*tracker_arrived)(lumbixet_tracker *, uint64_t, uint64_t, lumbixet_deadline);
     uint64_t (*tracker_ended_early)(lumbixet_tracker *, uint64_t, uint64_t);
     lumbixet_report (*tracker_report)(const lumbixet_tracker *, uint64_t, uint64_t, uint8_t *, size_t);
     void (*losses_open)(lumbixet_losses *);

@@ -20,7 +20,7 @@ static void must(uint64_t result, const char *what)
 static void arrives(lumbixet_tracker *tracker, uint64_t object, uint64_t time)
 {
     uint64_t deadline = (object - FIRST) * INTERVAL + PLAYBACK;
-    must(lumbixet_tracker_arrived(tracker, object, time, lumbixet_deadline(deadline)), "arrived");
+    must(lumbixet_tracker_arrived(tracker, object, time, lumbixet_deadline_at(deadline)), "arrived");
 }
 
 /* A letter for each object: R received, L late, - not received, P partial, a dot where it has no status. */

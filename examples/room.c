@@ -72,7 +72,7 @@ static void acknowledge(lumbixet_receiver *receiver, uint64_t time, bool counts,
         printf("  Marked so far: %" PRIu64 " with ECT(0), %" PRIu64 " with ECT(1), %" PRIu64 " with CE.\n", ack.ect0, ack.ect1, ack.ce);
 }
 
-/* An ACK_FREQUENCY frame: written by the sender, read here, heard, and heard once more. */
+/* An ACK_FREQUENCY frame: written by the sender, read here, and heard; then an obsolete one, whose reordering threshold is another. */
 static void other_rules(lumbixet_receiver *receiver)
 {
     uint8_t buffer[LUMBIXET_FREQUENCY_ROOM];
@@ -87,8 +87,9 @@ static void other_rules(lumbixet_receiver *receiver)
     printf("The frame is heard.");
     taken(lumbixet_threshold(*receiver, f.sequence, f.threshold, f.delay, f.reordering), receiver);
     rules(receiver);
-    printf("The frame is heard.");
-    taken(lumbixet_threshold(*receiver, f.sequence, f.threshold, f.delay, f.reordering), receiver);
+    printf("A frame with sequence 4 asks for reordering threshold 1.");
+    taken(lumbixet_threshold(*receiver, 4, f.threshold, f.delay, 1), receiver);
+    rules(receiver);
     printf("A frame with sequence 6 asks for a delay of 16384000.");
     taken(lumbixet_threshold(*receiver, 6, 2, 16384000, 0), receiver);
 }

@@ -16,18 +16,15 @@
  * Threads: no state is shared between calls. Any number of them may run at once; where two lend the same memory or go
  * on from the same record, the host orders them. Machine: x86-64 with the System V calling convention (Linux). The
  * archive asks for memcpy and memset alone; of the compiler C11 or C++11 is assumed.
- * Versions: patch numbers change no declaration. While MAJOR is 0, a new MINOR may add calls, constants
- * and fields, and so change the size of a struct: compile header and archive of one version. 0.2 brought lumbixet_tracker.h,
- * `confirmed` and lumbixet_confirm. 0.3 brought the totals of marks: lumbixet_packet takes the ECN field in place
- * of the CE mark, lumbixet_write takes which ACK to write, and a record is 288 bytes; one that was kept by an
- * earlier version is opened anew. 0.4 brought lumbixet_lent.h. 0.5 brought reports of 200 entries:
- * lumbixet_write_report takes the most that it may write. 0.6 brought profile 2 of the report: the calls of
- * lumbixet_report.h take the profile first, lumbixet_header holds 8 metrics, and lumbixet_entry has the group. 0.7 brought
- * lumbixet_totals.h. 0.8 brought lumbixet_newest_lost. 0.9 brought lumbixet_sent.h, 0.10 lumbixet_pieces.h. Numbers keep
- * their meaning.
+ * Versions: patch numbers change no declaration. While MAJOR is 0, a new MINOR may add calls, constants and fields, and so change
+ * the size of a struct: header and archive are of one version, and a mixture does not link. CHANGELOG.md says what each brought.
  */
 #ifndef LUMBIXET_H
 #define LUMBIXET_H
+
+#if !defined(__x86_64__) || !defined(__linux__) || defined(__ILP32__)
+#error "Lumbixet's archive is x86-64 code with the System V calling convention: compile for 64-bit x86-64 Linux"
+#endif
 
 #include <stdbool.h>
 #include <stddef.h>
@@ -39,10 +36,22 @@ extern "C" {
 
 /* The version of this header and of the archive that goes with it: its parts, one number to compare, and its name. */
 #define LUMBIXET_VERSION_MAJOR 0
-#define LUMBIXET_VERSION_MINOR 10
+#define LUMBIXET_VERSION_MINOR 11
 #define LUMBIXET_VERSION_PATCH 0
 #define LUMBIXET_VERSION (10000 * LUMBIXET_VERSION_MAJOR + 100 * LUMBIXET_VERSION_MINOR + LUMBIXET_VERSION_PATCH)
-#define LUMBIXET_VERSION_TEXT "0.10.0"
+#define LUMBIXET_VERSION_TEXT "0.11.0"
+
+/* The same of the archive that is linked, for other languages and for a log: 10000 * major + 100 * minor + patch, and its name. */
+uint32_t lumbixet_version(void);
+extern const char lumbixet_version_text[];
+
+/* Structs may change with the first two numbers, so every file that includes this header asks the archive for a name that holds
+ * them, lumbixet_archive_is_of_version_0_11: with an archive of another version the program does not link. */
+#define LUMBIXET_NAMED(major, minor) lumbixet_archive_is_of_version_##major##_##minor
+#define LUMBIXET_ARCHIVE_IS_OF(major, minor) LUMBIXET_NAMED(major, minor)
+extern const char LUMBIXET_ARCHIVE_IS_OF(LUMBIXET_VERSION_MAJOR, LUMBIXET_VERSION_MINOR);
+__attribute__((used)) static const char *const lumbixet_header_is_of_version =
+    &LUMBIXET_ARCHIVE_IS_OF(LUMBIXET_VERSION_MAJOR, LUMBIXET_VERSION_MINOR);
 
 /* The largest number, threshold and time: 2^62 - 1. */
 #define LUMBIXET_LARGEST UINT64_C(4611686018427387903)
@@ -239,7 +248,7 @@ lumbixet_wrote lumbixet_write(lumbixet_receiver receiver, uint64_t time_us, bool
 
 /* When to look at the timer: the first unacknowledged arrival plus the delay in force, in microseconds; UINT64_MAX while
  * nothing is pending or an acknowledgment is due already. */
-static inline uint64_t lumbixet_wake(const lumbixet_receiver *receiver)
+inline uint64_t lumbixet_wake(const lumbixet_receiver *receiver)
 {
     bool waiting = receiver->pending_count != 0 && receiver->cause == LUMBIXET_NOT_DUE;
     return waiting ? receiver->pending_first + receiver->delay : UINT64_MAX;

@@ -1,11 +1,15 @@
-/* Lumbixet's numbers in words, for a log. lumbixet.h includes it. */
+/* Lumbixet's numbers in words, for a log. lumbixet.h includes it. In line here, and symbols of the archive for other languages. */
 #ifndef LUMBIXET_TEXT_H
 #define LUMBIXET_TEXT_H
 
 #include "lumbixet.h"
 
+#ifdef __cplusplus
+extern "C" {
+#endif
+
 /* What a `result` says; "unknown" for a number that no call of this version gives. */
-static inline const char *lumbixet_refusal_text(uint64_t result)
+inline const char *lumbixet_refusal_text(uint64_t result)
 {
     static const char *const texts[] = {
         "accepted",
@@ -36,7 +40,7 @@ static inline const char *lumbixet_refusal_text(uint64_t result)
 }
 
 /* What a record's `cause` says; "unknown" for a number that no consistent record holds. */
-static inline const char *lumbixet_cause_text(uint64_t cause)
+inline const char *lumbixet_cause_text(uint64_t cause)
 {
     static const char *const texts[] = {
         "nothing is due",
@@ -48,5 +52,9 @@ static inline const char *lumbixet_cause_text(uint64_t cause)
     };
     return cause < sizeof texts / sizeof texts[0] ? texts[cause] : "unknown";
 }
+
+#ifdef __cplusplus
+}
+#endif
 
 #endif

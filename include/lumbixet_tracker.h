@@ -27,20 +27,30 @@ typedef struct {
     uint64_t objects[LUMBIXET_TRACKED]; /* a word each: top two bits 0 nothing, 1 ended early, 2 received, 3 late; then the time */
 } lumbixet_tracker;
 
-/* A deadline as lumbixet_tracker_arrived takes it. */
-#define LUMBIXET_NO_DEADLINE UINT64_C(0)
-static inline uint64_t lumbixet_deadline(uint64_t time)
+/* A playback deadline, or none: a type of its own, so that a plain time is not taken for one. */
+typedef struct {
+    uint64_t end; /* one past the deadline, and 0 for none */
+} lumbixet_deadline;
+
+static inline lumbixet_deadline lumbixet_no_deadline(void)
 {
-    return time == UINT64_MAX ? time : time + 1;
+    lumbixet_deadline none = {0};
+    return none;
+}
+
+static inline lumbixet_deadline lumbixet_deadline_at(uint64_t time)
+{
+    lumbixet_deadline at = {time == UINT64_MAX ? time : time + 1};
+    return at;
 }
 
 /* Opens a tracker for the 256 objects from `first` on. What stood in the record is not looked at.
  * 5: the last of the 256 or the interval is above LUMBIXET_LARGEST. */
 uint64_t lumbixet_tracker_open(lumbixet_tracker *tracker, uint64_t first, uint64_t interval);
 
-/* An object arrived whole: late if that was after its deadline, LUMBIXET_NO_DEADLINE or lumbixet_deadline(time).
+/* An object arrived whole: late if that was after its deadline, lumbixet_no_deadline() or lumbixet_deadline_at(time).
  * A second arrival is ignored. 1, 5, then 17. */
-uint64_t lumbixet_tracker_arrived(lumbixet_tracker *tracker, uint64_t object, uint64_t time, uint64_t deadline);
+uint64_t lumbixet_tracker_arrived(lumbixet_tracker *tracker, uint64_t object, uint64_t time, lumbixet_deadline deadline);
 
 /* An object ended early: it is partial unless it arrives. A second early end, or one after an arrival, is ignored.
  * 1, 5, then 17. */

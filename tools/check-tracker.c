@@ -24,10 +24,10 @@ static void words(lumbixet_tracker *t)
     SAME(t->objects[255], 0);
     SAME(lumbixet_tracker_ended_early(t, 101, 40), LUMBIXET_ACCEPTED);
     SAME(t->objects[1], ended + 40);
-    SAME(lumbixet_tracker_arrived(t, 102, 50, lumbixet_deadline(50)), LUMBIXET_ACCEPTED);
+    SAME(lumbixet_tracker_arrived(t, 102, 50, lumbixet_deadline_at(50)), LUMBIXET_ACCEPTED);
     SAME(t->objects[2], received + 50);
     SAME(t->named, 3);
-    SAME(lumbixet_tracker_arrived(t, 100, 61, lumbixet_deadline(60)), LUMBIXET_ACCEPTED);
+    SAME(lumbixet_tracker_arrived(t, 100, 61, lumbixet_deadline_at(60)), LUMBIXET_ACCEPTED);
     SAME(t->objects[0], late + 61);
     SAME(t->named, 3);
 }
@@ -36,17 +36,17 @@ static void refusals(lumbixet_tracker *t)
 {
     lumbixet_tracker made_up = *t;
     uint8_t entries[LUMBIXET_TRACKER_ROOM];
-    SAME(lumbixet_tracker_arrived(t, 99, 0, LUMBIXET_NO_DEADLINE), LUMBIXET_OUTSIDE);
-    SAME(lumbixet_tracker_arrived(t, 356, LUMBIXET_LARGEST + 1, LUMBIXET_NO_DEADLINE), LUMBIXET_TOO_LARGE);
-    SAME(lumbixet_tracker_arrived(t, 100, 0, lumbixet_deadline(LUMBIXET_LARGEST + 1)), LUMBIXET_TOO_LARGE);
-    SAME(lumbixet_tracker_arrived(t, 100, 0, lumbixet_deadline(UINT64_MAX)), LUMBIXET_TOO_LARGE);
+    SAME(lumbixet_tracker_arrived(t, 99, 0, lumbixet_no_deadline()), LUMBIXET_OUTSIDE);
+    SAME(lumbixet_tracker_arrived(t, 356, LUMBIXET_LARGEST + 1, lumbixet_no_deadline()), LUMBIXET_TOO_LARGE);
+    SAME(lumbixet_tracker_arrived(t, 100, 0, lumbixet_deadline_at(LUMBIXET_LARGEST + 1)), LUMBIXET_TOO_LARGE);
+    SAME(lumbixet_tracker_arrived(t, 100, 0, lumbixet_deadline_at(UINT64_MAX)), LUMBIXET_TOO_LARGE);
     SAME(lumbixet_tracker_ended_early(t, 356, 0), LUMBIXET_OUTSIDE);
     SAME(lumbixet_tracker_ended_early(t, LUMBIXET_LARGEST + 1, 0), LUMBIXET_TOO_LARGE);
     SAME(lumbixet_tracker_report(t, LUMBIXET_LARGEST + 1, 0, entries, sizeof entries).result, LUMBIXET_TOO_LARGE);
     SAME(lumbixet_tracker_report(t, 70, 1000, entries, 47).result, LUMBIXET_NO_ROOM);
     SAME(memcmp(t, &made_up, sizeof made_up), 0);
     made_up.named = 0;
-    SAME(lumbixet_tracker_arrived(&made_up, 100, 0, 0), LUMBIXET_INCONSISTENT);
+    SAME(lumbixet_tracker_arrived(&made_up, 100, 0, lumbixet_no_deadline()), LUMBIXET_INCONSISTENT);
     made_up.named = 2;
     SAME(lumbixet_tracker_ended_early(&made_up, 100, 0), LUMBIXET_INCONSISTENT);
     made_up.named = 257;

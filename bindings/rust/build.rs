@@ -1,11 +1,16 @@
 //! Says where liblumbixet.a is: in the folder that LUMBIXET_LIB_DIR names; where it names none, in this checkout
-//! (`make archive`), else where pkg-config finds the installed one.
+//! (`make archive`) or beside this crate in its package, else where pkg-config finds the installed one.
 
 use std::path::{Path, PathBuf};
 use std::process::Command;
 
 fn main() {
     println!("cargo:rerun-if-env-changed=LUMBIXET_LIB_DIR");
+    let target = std::env::var("TARGET").unwrap_or_default();
+    if !(target.starts_with("x86_64-") && target.contains("-linux-")) || target.ends_with("x32") {
+        eprintln!("Lumbixet's archive is x86-64 code for Linux, and the target is {target}: choose a target such as x86_64-unknown-linux-gnu");
+        std::process::exit(1)
+    }
     let named = std::env::var_os("LUMBIXET_LIB_DIR").map(PathBuf::from);
     let found = named.map_or_else(|| built().or_else(installed), holding_it);
     let folder = found.unwrap_or_else(|| {
@@ -18,11 +23,13 @@ fn main() {
 }
 
 fn holding_it(folder: PathBuf) -> Option<PathBuf> {
-    folder.join("liblumbixet.a").is_file().then(|| folder)
+    folder.join("liblumbixet.a").is_file().then_some(folder)
 }
 
+/// Of a checkout bindings/rust, of a package share/lumbixet/rust.
 fn built() -> Option<PathBuf> {
-    holding_it(Path::new(&std::env::var_os("CARGO_MANIFEST_DIR")?).join("../../target/lib"))
+    let here = std::env::var_os("CARGO_MANIFEST_DIR")?;
+    ["../../target/lib", "../../../lib"].iter().find_map(|folder| holding_it(Path::new(&here).join(folder)))
 }
 
 fn installed() -> Option<PathBuf> {

@@ -8,6 +8,7 @@ use crate::numbers::LARGEST;
 use crate::profile::RECORD;
 use crate::random::Random;
 use crate::refusals::{ACCEPTED, INCONSISTENT, NO_ROOM, TOO_LARGE};
+use crate::report::{LARGEST_AVERAGE, SMALLEST_AVERAGE};
 use crate::tally::{leaves, Call, Lent, Tally};
 use crate::tracker::{open, Known, Tracker, OBJECTS};
 
@@ -54,7 +55,21 @@ pub fn grown(random: &mut Random, tally: &mut Tally) -> Result<(), String> {
         }
     }
     let time = time_near(random, &given);
-    compare_report(random, tally, &given, time)
+    compare_report(random, tally, &given, time)?;
+    average_at_its_ends(random, tally)
+}
+
+/// Two arrivals whose gap, less the interval, is the largest average, the smallest, or one past it.
+fn average_at_its_ends(random: &mut Random, tally: &mut Tally) -> Result<(), String> {
+    let largest = LARGEST_AVERAGE as u64;
+    let (little, past) = (random.below(1000), random.below(2));
+    let (interval, gap) = random.one_of(&[(little, little + largest + past), (little + largest + 1 + past, little)]);
+    let mut given = Raw { first: random.below(1000), interval, named: 0, objects: [0; OBJECTS as usize] };
+    for time in [little, little + gap] {
+        let object = object_near(random, &given);
+        given = compare_arrived(random, tally, &given, object, time)?;
+    }
+    compare_report(random, tally, &given, little)
 }
 
 fn note_inconsistent(tally: &mut Tally, given: &Raw) {
@@ -188,6 +203,8 @@ fn compare_report(random: &mut Random, tally: &mut Tally, given: &Raw, time: u64
         tally.note("a report without entries", all.header.entries == 0);
         tally.note("an average below zero", all.header.average < 0);
         tally.note("an average above zero", all.header.average > 0);
+        tally.note("the largest average", all.header.average == LARGEST_AVERAGE);
+        tally.note("the smallest average", all.header.average == SMALLEST_AVERAGE);
     }
     let only_the_average = record.consistent() && time <= LARGEST && interval <= LARGEST;
     tally.note("5 for the average alone", all.result == TOO_LARGE && only_the_average);

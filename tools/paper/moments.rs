@@ -57,7 +57,7 @@ pub const CAN_GIVE: [(&str, &[u64]); 52] = [
 ];
 
 /// What must have happened in accepted and refused calls beyond their results.
-pub const MOMENTS: [&str; 209] = [
+pub const MOMENTS: &[&str] = &[
     "1 for nothing but a floor above L",
     "1 for nothing but a floor while nothing was received",
     "7 though it was received and lies within 1,024 of L",
@@ -220,6 +220,8 @@ pub const MOMENTS: [&str; 209] = [
     "a report without entries",
     "an average below zero",
     "an average above zero",
+    "the largest average",
+    "the smallest average",
     "5 for the average alone",
     "a report at every room",
     "9 for one byte less than the whole",

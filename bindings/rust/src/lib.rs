@@ -41,6 +41,7 @@ mod refusal;
 mod report;
 mod sent;
 mod tracker;
+mod version;
 mod week;
 
 pub use frames::{read_number, write_number, Ack, Frequency, Immediate};
@@ -52,6 +53,7 @@ pub use refusal::{Cause, Refusal};
 pub use report::{Entries, Entry, Header, Lost, Report, Status, Written};
 pub use sent::{Changes, Losses, States, HELD, PACKET_THRESHOLD};
 pub use tracker::{Made, Tracker, TRACKED};
+pub use version::version;
 pub use week::{Sum, Week, PAGE_ROOM, PIECE_LEAST};
 
 /// Microseconds: times, the minimum delay, and the delay in force.

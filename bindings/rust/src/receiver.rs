@@ -31,8 +31,8 @@ pub struct Packet {
 }
 
 /// The receiver of one packet number space. A refused call leaves it as it was. Packets, timer and writes update the record
-/// where it stands; the rarer calls hand it over by value.
-#[derive(Clone, Copy, Debug, PartialEq, Eq)]
+/// where it stands; the rarer calls hand it over by value. It is copied by `clone` alone: of two that go on from one, one is forgotten.
+#[derive(Clone, Debug, PartialEq, Eq)]
 pub struct Receiver {
     record: raw::Receiver,
 }
@@ -98,7 +98,7 @@ impl Receiver {
 
     /// Writes an ACK frame of type 02 at the start of the buffer, with as many newest ranges as fit, and gives the frame's
     /// bytes. It may be written whether one is due or not. [`ACK_ROOM`](crate::ACK_ROOM) bytes hold all ranges. Where sending
-    /// may fail, keep a copy of the receiver from before: with it the ACK is still due.
+    /// may fail, keep a clone of the receiver from before: with it the ACK is still due.
     ///
     /// # Errors
     /// [`Refusal::Inconsistent`], [`Refusal::TooLarge`], [`Refusal::NothingYet`], [`Refusal::NoRoom`].

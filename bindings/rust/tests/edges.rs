@@ -81,6 +81,8 @@ fn names_are_the_headers() {
     let manifest = include_str!("../Cargo.toml");
     let version = manifest.lines().find_map(|line| line.strip_prefix("version = ")).unwrap();
     assert!(HEADERS.contains(&format!("#define LUMBIXET_VERSION_TEXT {version}\n")));
+    let parts: Vec<u32> = version.trim_matches('"').split('.').map(|part| part.parse().unwrap()).collect();
+    assert_eq!(lumbixet::version(), 10000 * parts[0] + 100 * parts[1] + parts[2]);
 }
 
 #[test]
@@ -109,7 +111,7 @@ fn confirmations() {
     assert_eq!(receiver.confirm(0), Err(Refusal::NotAcknowledged));
     assert_eq!(receiver.write(Micros(0), &mut buffer), Ok(&[0x02, 2, 0, 1, 0, 0, 0][..]));
     assert_eq!((receiver.packet(packet(4)), receiver.packet(packet(5))), (Ok(None), Ok(Some(Cause::Count))));
-    let before = receiver;
+    let before = receiver.clone();
     assert_eq!(receiver.confirm(LARGEST + 1), Err(Refusal::TooLarge));
     assert_eq!(receiver.confirm(3), Err(Refusal::NotAcknowledged));
     assert_eq!(receiver, before, "a refused call changed the record");

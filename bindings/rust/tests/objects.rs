@@ -14,7 +14,7 @@ fn arrives(tracker: &mut Tracker, object: u64, time: u64) {
 fn told(tracker: &Tracker, time: u64) -> (String, [u64; 4], i64) {
     let mut room = [[0; 16]; TRACKED];
     let made = tracker.report(Micros(time), Micros(100000), &mut room).unwrap();
-    let mut strip = vec!['.'; 8];
+    let mut strip = ['.'; 8];
     for record in made.records {
         let entry = Entry::read(Profile::One, record, 0).unwrap();
         strip[(entry.object - FIRST) as usize] = match entry.status {

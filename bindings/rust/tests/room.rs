@@ -45,7 +45,7 @@ impl Room {
             Mark::Ce => " with a congestion mark",
         };
         self.say(&format!("At {time} packet {number} arrives{marked}."));
-        let before = self.receiver;
+        let before = self.receiver.clone();
         let answer = self.receiver.packet(Packet { number, time: Micros(time), eliciting: true, mark });
         assert!(answer.is_ok() || self.receiver == before, "a refused call changed the record");
         self.came_to(answer);
@@ -100,8 +100,9 @@ impl Room {
         self.say(&format!("reordering threshold {reordering}.\nThe frame is heard."));
         self.hear(frame);
         self.rules();
-        self.say("The frame is heard.");
-        self.hear(frame);
+        self.say("A frame with sequence 4 asks for reordering threshold 1.");
+        self.hear(Frequency { sequence: 4, reordering: 1, ..frame });
+        self.rules();
         self.say("A frame with sequence 6 asks for a delay of 16384000.");
         self.hear(Frequency { sequence: 6, delay: Micros(16_384_000), ..frame });
     }

@@ -26,7 +26,7 @@ struct Room {
 impl Room {
     fn opened(room: u64) -> Room {
         let receiver = Receiver::open(room % 7, room % 5, Millis(25), Micros(1000)).unwrap();
-        Room { receiver, by_value: *receiver.record() }
+        Room { by_value: *receiver.record(), receiver }
     }
 
     /// The result of both forms of one call; the record is taken from the one by value, and compared with the other.

@@ -1,16 +1,14 @@
 -- The cases of request No. 4 hold on the definitions: antt computes them.
 -- Assumes nothing.
 use mathlib.Core.Path.{refl}
-use Rattle.tracker.specs.Record.{noneArrived, firstNamed, consistent}
-use Rattle.tracker.specs.Calls.{openRefusal, opened, objectRefusal, arrivedRefusal, withArrival, endedRefusal, withEnd}
-use Rattle.tracker.specs.Status.{statusAt, entriesFrom, howMany}
+use Rattle.tracker.specs.Status.{someCame, statusAt, entriesFrom, howMany}
 use Rattle.tracker.specs.Average.{arrivalTimes, insert, inOrder, gapsOf, deviation, meanOf}
-use Rattle.tracker.specs.Report.{reportRefusal}
-use Rattle.tracked.specs.Told.{after}
+use Rattle.tracker.specs.Report.{madeRefusal}
+use Rattle.tracked.specs.Told.{firstTold, arrivalTold, endTold}
 use Rattle.tracked.specs.Examples.{Examples}
 
 pub examples : Examples
-unfolding noneArrived firstNamed consistent openRefusal opened objectRefusal arrivedRefusal withArrival endedRefusal withEnd statusAt entriesFrom howMany arrivalTimes insert inOrder gapsOf deviation meanOf reportRefusal after
+unfolding someCame statusAt entriesFrom howMany arrivalTimes insert inOrder gapsOf deviation meanOf madeRefusal firstTold arrivalTold endTold
 examples =
     record {
       at-the-deadline = refl;
@@ -34,6 +32,8 @@ examples =
       two = (refl, refl);
       three = (refl, refl);
       everyone = (refl, refl);
+      summary = refl;
+      entries = refl;
       highest = (refl, refl);
       lowest = (refl, refl);
       room = (refl, refl);

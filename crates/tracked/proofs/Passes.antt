@@ -25,25 +25,26 @@ use Rattle.report.specs.Average.{storedOf}
 use Rattle.report.specs.Header.{numbersOf, pairs, firstFault}
 use Rattle.report.specs.Writer.{reportSize, keptOf, planned, writeAnswer}
 use Rattle.report.specs.Refusals.{writtenRefusal}
-use Rattle.report.specs.Exactly.{MetricsObey}
+use Rattle.report.specs.Exactly.{SumHolds, MetricsObey}
 use Rattle.report.specs.declared.Written.{Written}
 use Rattle.report.specs.declared.Written.the-variants.{Done, Refused}
 use Rattle.report.proofs.Refusing.{report-writes}
 use Rattle.report.proofs.Back.{write-read}
-use Rattle.tracker.specs.Record.{mostObjects, firstOf, wordAt, timeOf}
-use Rattle.tracker.specs.Status.{statusAt, noStatus, ageOf, entryBytes, entriesFrom, howMany}
+use Rattle.tracker.specs.Known.{mostObjects, Known}
+use Rattle.tracker.specs.Record.{firstOf, known}
+use Rattle.tracker.specs.Status.{statusAt, noStatus, sinceOf, ageOf, entryBytes, entriesFrom, howMany}
 use Rattle.tracker.specs.Report.{totalOf, averageAt, summaryOf, entriesAt}
-use Rattle.tracked.specs.Passes.{TotalIsParts, EntriesCounted, WriterTakes, EntriesRise, GoesThrough, ThroughAndBack}
+use Rattle.tracked.specs.Passes.{EntriesCounted, WriterTakes, EntriesRise, GoesThrough, ThroughAndBack}
 use Rattle.tracker.proofs.Counted.{many-within, total-parts, entries-length}
 use Rattle.tracker.proofs.Exactly.{exactly}
 
-pub total-is-parts : TotalIsParts
+sum-holds : (k : Known) (time interval : ℕ) → SumHolds (summaryOf k time interval)
 unfolding summaryOf
-total-is-parts r time interval = total-parts (statusAt r time) mostObjects 0
+sum-holds k time interval = total-parts (statusAt k time) mostObjects 0
 
 pub entries-counted : EntriesCounted
 unfolding summaryOf
-entries-counted r time interval = entries-length (statusAt r time) r time mostObjects 0
+entries-counted k time interval = entries-length (statusAt k time) k time mostObjects 0
 
 -- ---- one record obeys its rule
 
@@ -76,40 +77,40 @@ entry-made object status age rest h l =
 
 -- ---- records in a row
 
-good : (status : ℕ → ℕ) (r : List ℕ) (time n place above : ℕ) → above ≤ firstOf r + place → firstOf r + place + n ≤ limit + 1
-    → recordsGood One (howMany (λ p. ltb (status p) noStatus) n place) 0 above (entriesFrom status r time n place) ≡ true
+good : (status : ℕ → ℕ) (k : Known) (time n place above : ℕ) → above ≤ k .first + place → k .first + place + n ≤ limit + 1
+    → recordsGood One (howMany (λ p. ltb (status p) noStatus) n place) 0 above (entriesFrom status k time n place) ≡ true
 unfolding recordsGood howMany entriesFrom
-good status r time zero place above a h = refl
-good status r time (suc n) place above a h =
+good status k time zero place above a h = refl
+good status k time (suc n) place above a h =
     let m : ℕ = howMany (λ p. ltb (status p) noStatus) n (suc place) in
     split (suc (status place)) noStatus
-    (λ k.
+    (λ l.
     let st : ℕ = status place in
-    let age : ℕ = ageOf st time (timeOf (wordAt r place)) in
+    let age : ℕ = ageOf st time (sinceOf (k .became place)) in
     let one : 1 + m ≡ suc m = omega arith in
-    let f : ℕ → ℕ → Bool = λ group next. recordsGood One m group next (entriesFrom status r time n (suc place)) in
+    let f : ℕ → ℕ → Bool = λ group next. recordsGood One m group next (entriesFrom status k time n (suc place)) in
     rw (lt-ltb (status place) noStatus (omega arith), one)
-    (ap (λ e. follows 0 above e f) (entry-made (firstOf r + place) st age (entriesFrom status r time n (suc place)) (omega arith) (age-small st time (timeOf (wordAt r place))))
-    ∙ followed above (firstOf r + place) st age f a (omega arith) (omega arith) (λ e. rw (eq-eqb st 2 e))
-    ∙ good status r time n (suc place) (suc (firstOf r + place)) (omega arith) (omega arith)))
-    (λ k.
+    (ap (λ e. follows 0 above e f) (entry-made (k .first + place) st age (entriesFrom status k time n (suc place)) (omega arith) (age-small st time (sinceOf (k .became place))))
+    ∙ followed above (k .first + place) st age f a (omega arith) (omega arith) (λ e. rw (eq-eqb st 2 e))
+    ∙ good status k time n (suc place) (suc (k .first + place)) (omega arith) (omega arith)))
+    (λ l.
     let none : 0 + m ≡ m = omega arith in
-    rw (le-ltb (status place) noStatus (omega arith), none) (good status r time n (suc place) above (omega arith) (omega arith)))
+    rw (le-ltb (status place) noStatus (omega arith), none) (good status k time n (suc place) above (omega arith) (omega arith)))
 
-records-pass : (r : List ℕ) (time : ℕ) → firstOf r + 255 ≤ limit → RecordsPass One (entriesAt r time)
+records-pass : (r : List ℕ) (time : ℕ) → firstOf r + 255 ≤ limit → RecordsPass One (entriesAt (known r) time)
 records-pass r time h =
-    let l = entries-length (statusAt r time) r time mostObjects 0 in
-    let w = many-within (λ p. ltb (statusAt r time p) noStatus) mostObjects 0 in
-    let d : length (entriesAt r time) / recordSize One ≡ totalOf r time = omega (arith, l) in
+    let l = entries-length (statusAt (known r) time) (known r) time mostObjects 0 in
+    let w = many-within (λ p. ltb (statusAt (known r) time p) noStatus) mostObjects 0 in
+    let d : length (entriesAt (known r) time) / recordSize One ≡ totalOf (known r) time = omega (arith, l) in
     record {
       even = omega (arith, l);
       few = omega (arith, l, w);
-      good = rw d (good (statusAt r time) r time mostObjects 0 0 (omega arith) (omega arith));
+      good = rw d (good (statusAt (known r) time) (known r) time mostObjects 0 0 (omega arith) (omega arith));
     }
 
 -- ---- the header
 
-header-small : (r : List ℕ) (time interval : ℕ) → time ≤ limit → interval ≤ limit → storedOf (averageAt r) ≤ limit → Small (numbersOf One (summaryOf r time interval))
+header-small : (r : List ℕ) (time interval : ℕ) → time ≤ limit → interval ≤ limit → storedOf (averageAt (known r)) ≤ limit → Small (numbersOf One (summaryOf (known r) time interval))
 unfolding numbersOf summaryOf pairs
 header-small r time interval h i a =
     let few : (test : ℕ → Bool) → howMany test mostObjects 0 ≤ mostObjects = λ test. many-within test mostObjects 0 in (
@@ -117,19 +118,19 @@ header-small r time interval h i a =
       (
         i,
         (
-          omega (arith, few (λ p. ltb (statusAt r time p) noStatus)),
+          omega (arith, few (λ p. ltb (statusAt (known r) time p) noStatus)),
           (
-            omega (arith, few (λ p. eqb (statusAt r time p) 0)),
+            omega (arith, few (λ p. eqb (statusAt (known r) time p) 0)),
             (
-              omega (arith, few (λ p. eqb (statusAt r time p) 1)),
-              (omega (arith, few (λ p. eqb (statusAt r time p) 2), few (λ p. eqb (statusAt r time p) 3)), (a, (omega arith, tt))),
+              omega (arith, few (λ p. eqb (statusAt (known r) time p) 1)),
+              (omega (arith, few (λ p. eqb (statusAt (known r) time p) 2), few (λ p. eqb (statusAt (known r) time p) 3)), (a, (omega arith, tt))),
             ),
           ),
         ),
       ),
     )
 
-no-metrics : (r : List ℕ) (time interval : ℕ) → MetricsObey One (summaryOf r time interval)
+no-metrics : (r : List ℕ) (time interval : ℕ) → MetricsObey One (summaryOf (known r) time interval)
 unfolding summaryOf
 no-metrics r time interval = record { few = omega arith; known = λ i h. absurd (omega arith); rising = λ i h. absurd (omega arith) }
 
@@ -138,7 +139,7 @@ writer-takes r time interval room maximum e m =
     let ok = exactly .report r time interval room .accepted .0 e in
     record {
       front = record {
-        header = record { small = header-small r time interval (ok .1 .0 .0) (ok .1 .0 .1) (ok .1 .1 .0); sum = total-is-parts r time interval; metrics = no-metrics r time interval };
+        header = record { small = header-small r time interval (ok .1 .0 .0) (ok .1 .0 .1) (ok .1 .1 .0); sum = sum-holds (known r) time interval; metrics = no-metrics r time interval };
         within = m;
       };
       records = records-pass r time (ok .0 .last);
@@ -146,8 +147,8 @@ writer-takes r time interval room maximum e m =
 
 pub entries-rise : EntriesRise
 entries-rise r time interval room e i h =
-    let l = entries-length (statusAt r time) r time mostObjects 0 in
-    entries-judged One (entriesAt r time) .0 (writer-takes r time interval room 0 e (omega arith) .records .good) i (omega (arith, l))
+    let l = entries-length (statusAt (known r) time) (known r) time mostObjects 0 in
+    entries-judged One (entriesAt (known r) time) .0 (writer-takes r time interval room 0 e (omega arith) .records .good) i (omega (arith, l))
 
 -- the writer refuses with a number, never with 0
 refuses-some : (ns entries : List ℕ) (maximum room n : ℕ) → Refused n ≡ planned One ns entries maximum room → n ≡ 0 → ⊥
@@ -170,9 +171,9 @@ refuses-some ns entries maximum room n e z =
 
 pub through-and-back : ThroughAndBack
 through-and-back r time interval room maximum xs e m l =
-    go (writeAnswer One (summaryOf r time interval) (entriesAt r time) maximum (length xs)) refl (report-writes One (summaryOf r time interval) (entriesAt r time) maximum (length xs) .accepted .1 (writer-takes r time interval room maximum e m, l))
+    go (writeAnswer One (summaryOf (known r) time interval) (entriesAt (known r) time) maximum (length xs)) refl (report-writes One (summaryOf (known r) time interval) (entriesAt (known r) time) maximum (length xs) .accepted .1 (writer-takes r time interval room maximum e m, l))
   where
-    go : (w : Written) → w ≡ writeAnswer One (summaryOf r time interval) (entriesAt r time) maximum (length xs) → writtenRefusal (writeAnswer One (summaryOf r time interval) (entriesAt r time) maximum (length xs)) ≡ 0
+    go : (w : Written) → w ≡ writeAnswer One (summaryOf (known r) time interval) (entriesAt (known r) time) maximum (length xs) → writtenRefusal (writeAnswer One (summaryOf (known r) time interval) (entriesAt (known r) time) maximum (length xs)) ≡ 0
         → GoesThrough r time interval maximum xs
-    go (Done next kept) q z = record { next = next; kept = kept; written = q; back = write-read One (summaryOf r time interval) (entriesAt r time) maximum xs next kept q }
-    go (Refused n) q z = absurd (refuses-some (numbersOf One (summaryOf r time interval)) (entriesAt r time) maximum (length xs) n q (ap writtenRefusal q ∙ z))
+    go (Done next kept) q z = record { next = next; kept = kept; written = q; back = write-read One (summaryOf (known r) time interval) (entriesAt (known r) time) maximum xs next kept q }
+    go (Refused n) q z = absurd (refuses-some (numbersOf One (summaryOf (known r) time interval)) (entriesAt (known r) time) maximum (length xs) n q (ap writtenRefusal q ∙ z))

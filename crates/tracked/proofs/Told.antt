@@ -1,7 +1,7 @@
--- The record says exactly what the calls say, by induction over the calls from a record that holds what the calls before told.
+-- What one call does to what the record knows: the ground for an induction over the calls, from a record that holds what the calls before told.
 -- Assumes nothing.
-use Prim.Native.Nat.{ℕ, _+_, _-_, _≤_, _<_}
-use mathlib.Core.Path.{_≡_, refl, sym, _∙_}
+use Prim.Native.Nat.{ℕ, zero, suc, _+_, _-_, _≤_, _<_}
+use mathlib.Core.Path.{_≡_, refl, sym, ap, _∙_}
 use mathlib.Core.Bool.{Bool, true, false, _&&_}
 use mathlib.Core.List.{List}
 use native.Mathlib.Omega.{arith}
@@ -12,15 +12,31 @@ use lib.Seq.{getD-set-same, getD-set-other}
 use Rattle.wire.specs.Bytes.{pick}
 use Rattle.wire.specs.Numbers.{limit}
 use Rattle.wire.proofs.Lengths.{split}
-use Rattle.tracker.specs.Record.{mostObjects, firstOf, intervalOf, namedOf, wordAt, stateOf, wordOf, nothing, endedEarly, received, late, hasArrived, consistent}
-use Rattle.tracker.specs.Calls.{among, objectRefusal, isLate, arrivalWord, withNamed}
+use Rattle.tracker.specs.Known.{mostObjects, Fate, unknown, ended, came, hasCome, FirstArrival, noneYet, firstCame}
+use Rattle.tracker.specs.Record.{firstOf, intervalOf, namedOf, wordAt, stateOf, timeOf, wordOf, nothing, endedEarly, received, late, fateIn, fateOf, hasArrived, consistent, known}
+use Rattle.tracker.specs.Calls.{among, numbersRefusal, objectRefusal, isLate, arrivalWord, withNamed}
 use Rattle.tracker.specs.Exactly.{Consistent}
+use Rattle.tracked.specs.Told.{orElse}
 use Rattle.tracker.proofs.Tests.{either, clash}
+use Rattle.tracker.proofs.Fates.{word-came}
 use Rattle.tracker.proofs.Exactly.{consistent-exactly}
 
--- ---- the words of arrivals and early ends
+-- ---- the words of arrivals and early ends say what the calls said
 
--- an arrival's word says arrived, and an early end's says ended early
+word-back : (state time : ℕ) → state < 4 → time ≤ limit → fateOf (wordOf state time) ≡ fateIn state time
+word-back state time h l =
+    let s : stateOf (wordOf state time) ≡ state = omega arith in
+    let u : timeOf (wordOf state time) ≡ time = omega arith in
+    rw (s, u)
+
+pub arrival-says : (time deadline : ℕ) → time ≤ limit → fateOf (arrivalWord time deadline) ≡ came time (isLate time deadline)
+arrival-says time deadline h = go (isLate time deadline)
+  where
+    go : (b : Bool) → fateOf (wordOf (pick b late received) time) ≡ came time b
+    go true = word-back late time (omega arith) h
+    go false = word-back received time (omega arith) h
+
+-- and so that it arrived, at its time
 pub arrival-state : (time deadline : ℕ) → time ≤ limit → received ≤ stateOf (arrivalWord time deadline)
 arrival-state time deadline h = go (isLate time deadline)
   where
@@ -28,28 +44,70 @@ arrival-state time deadline h = go (isLate time deadline)
     go true = omega arith
     go false = omega arith
 
-pub end-state : (time : ℕ) → time ≤ limit → stateOf (wordOf endedEarly time) ≡ endedEarly
-end-state time h = omega arith
+pub arrival-time : (time deadline : ℕ) → time ≤ limit → timeOf (arrivalWord time deadline) ≡ time
+arrival-time time deadline h = go (isLate time deadline)
+  where
+    go : (b : Bool) → timeOf (wordOf (pick b late received) time) ≡ time
+    go true = omega arith
+    go false = omega arith
 
--- ---- what a record after some calls knows, with the words so far
+pub end-says : (time : ℕ) → time ≤ limit → fateOf (wordOf endedEarly time) ≡ ended time
+end-says time h = word-back endedEarly time (omega arith) h
+
+-- ---- what is known already, and what the calls to come tell
+
+-- of an object: an arrival stays; an early end stays unless an arrival comes
+abbrev pub fateThen : Fate → Fate → Fate → Fate
+fateThen (came time late) arrives ends = came time late
+fateThen (ended time) arrives ends = orElse arrives (ended time)
+fateThen unknown arrives ends = orElse arrives ends
+
+-- of the first arrival
+abbrev pub firstThen : FirstArrival → FirstArrival → FirstArrival
+firstThen noneYet later = later
+firstThen (firstCame place time) later = firstCame place time
+
+pub same-fate : (f : Fate) → f ≡ fateThen f unknown unknown
+same-fate unknown = refl
+same-fate (ended time) = refl
+same-fate (came time late) = refl
+
+pub same-first : (f : FirstArrival) → f ≡ firstThen f noneYet
+same-first noneYet = refl
+same-first (firstCame place time) = refl
+
+-- one that came is told nothing new
+pub then-stays : (f a b e : Fate) → hasCome f ≡ true → fateThen f a e ≡ fateThen f b e
+then-stays unknown a b e h = clash h refl
+then-stays (ended time) a b e h = clash h refl
+then-stays (came time late) a b e h = refl
+
+-- one that has not come comes
+pub then-comes : (f e : Fate) (time : ℕ) (late : Bool) → hasCome f ≡ false → came time late ≡ fateThen f (came time late) e
+then-comes unknown e time late h = refl
+then-comes (ended since) e time late h = refl
+then-comes (came since before) e time late h = clash refl h
+
+-- one of which something is known does not end
+pub then-known : (state time : ℕ) (a e g : Fate) → (state ≡ nothing → ⊥) → fateThen (fateIn state time) a e ≡ fateThen (fateIn state time) a g
+then-known zero time a e g f = absurd (f refl)
+then-known (suc zero) time a e g f = refl
+then-known (suc (suc zero)) time a e g f = refl
+then-known (suc (suc (suc state))) time a e g f = refl
+
+-- ---- what a record after some calls knows
 
 pub record Holds (first interval : ℕ) (r : List ℕ) : Type 0 where
   pub size : length r ≡ 259
   pub sound : Consistent r
   pub is-first : firstOf r ≡ first
   pub is-interval : intervalOf r ≡ interval
-  -- a word of which nothing is known is 0
-  pub plain : (p : ℕ) → p < mostObjects → stateOf (wordAt r p) ≡ nothing → wordAt r p ≡ 0
 
--- the word after the calls, of an object whose word is w
-abbrev pub wordThen : ℕ → ℕ → ℕ → ℕ
-wordThen w arrived ended = pick (hasArrived w) w (pick (eqb arrived 0) (pick (eqb w 0) ended w) arrived)
-
--- what one call leaves: the record holds, and the first arrival and the words to come are as the calls with this one tell
-pub record Step (first interval : ℕ) (r s : List ℕ) (named : ℕ → ℕ) (arrived ended : ℕ → ℕ → ℕ) : Type 0 where
+-- what one call leaves: the record holds, and the first arrival and the fates to come are as the calls with this one tell
+pub record Step (first interval : ℕ) (r s : List ℕ) (named : FirstArrival → FirstArrival) (arrives ends : ℕ → Fate → Fate) : Type 0 where
   pub holds : Holds first interval s
-  pub names : (k : ℕ) → pick (eqb (namedOf s) 0) k (namedOf s) ≡ pick (eqb (namedOf r) 0) (named k) (namedOf r)
-  pub words : (p a e : ℕ) → p < mostObjects → wordThen (wordAt s p) a e ≡ wordThen (wordAt r p) (arrived p a) (ended p e)
+  pub names : (k : FirstArrival) → firstThen (known s .arrival) k ≡ firstThen (known r .arrival) (named k)
+  pub fates : (p : ℕ) (a e : Fate) → fateThen (fateOf (wordAt s p)) a e ≡ fateThen (fateOf (wordAt r p)) (arrives p a) (ends p e)
 
 -- ---- which calls count
 
@@ -57,7 +115,7 @@ module _ (r : List ℕ) (first interval object : ℕ) (h : Holds first interval 
   sound-now : consistent r ≡ true
   sound-now = consistent-exactly r .1 (h .sound)
 
-  refusal-now : (b : Bool) → objectRefusal r object b ≡ pick b (pick (among first object) 0 17) 5
+  pub refusal-now : (b : Bool) → objectRefusal r object b ≡ numbersRefusal first object b
   unfolding objectRefusal
   refusal-now b = rw (sound-now, h .is-first)
 
@@ -79,7 +137,7 @@ module _ (r : List ℕ) (first interval object : ℕ) (h : Holds first interval 
 
 -- a call that changes nothing and tells nothing
 pub nothing-told : (first interval : ℕ) (r s : List ℕ) → Holds first interval r → s ≡ r → Step first interval r s (λ k. k) (λ p a. a) (λ p e. e)
-nothing-told first interval r s h e = rw e (record { holds = h; names = λ k. refl; words = λ p a e l. refl })
+nothing-told first interval r s h e = rw e (record { holds = h; names = λ k. refl; fates = λ p a e. refl })
 
 -- ---- one word is set
 
@@ -133,13 +191,20 @@ placed r place word size within =
       there = λ p g. set-there r place word size within p g;
     }))
 
--- a word that says arrived is above 0
-arrived-some : (w : ℕ) → received ≤ stateOf w → w ≡ 0 → ⊥
-arrived-some w a e = let b : received ≤ stateOf 0 = rw e at a in omega arith
+-- the first arrival of two records that name the same one, whose word stays
+pub same-arrival : (r s : List ℕ) → namedOf s ≡ namedOf r → ((namedOf r ≡ 0 → ⊥) → wordAt s (namedOf r - 1) ≡ wordAt r (namedOf r - 1)) → known s .arrival ≡ known r .arrival
+same-arrival r s e f =
+    split (namedOf r) 0
+    (λ l. let z : namedOf r ≡ 0 = omega arith in rw (e, eq-eqb (namedOf r) 0 z))
+    (λ l. let g : namedOf r ≡ 0 → ⊥ = λ z. absurd (omega arith) in rw (e, ne-eqb (namedOf r) 0 g, f g))
 
-module _ (first interval : ℕ) (r s : List ℕ) (h : Holds first interval r) (place word : ℕ) (within : place < mostObjects) (arrived : received ≤ stateOf word) (away : hasArrived (wordAt r place) ≡ false) (d : Placed r s place word) where
+module _ (first interval : ℕ) (r s : List ℕ) (h : Holds first interval r) (place word time : ℕ) (late : Bool) (says : fateOf word ≡ came time late) (within : place < mostObjects) (arrived : received ≤ stateOf word) (when : timeOf word ≡ time) (away : hasArrived (wordAt r place) ≡ false) (d : Placed r s place word) where
   named-some : namedOf s ≡ 0 → ⊥
   named-some e = split (namedOf r) 0 (λ l. omega (arith, d .none-before (omega arith))) (λ l. omega (arith, d .some-before (λ z. absurd (omega arith))))
+
+  -- the one named before is another
+  other : (g : namedOf r ≡ 0 → ⊥) → namedOf r - 1 ≡ place → ⊥
+  other g e = clash (le-leb received (stateOf (wordAt r place)) (rw e at (h .sound .named g))) away
 
   place-sound : Consistent s
   place-sound = record {
@@ -153,34 +218,27 @@ module _ (first interval : ℕ) (r s : List ℕ) (h : Holds first interval r) (p
         rw (e, d .here) arrived)
         (λ l.
         let g : namedOf r ≡ 0 → ⊥ = λ z. absurd (omega arith) in
-        let a = h .sound .named g in
-        let o : (namedOf r - 1 ≡ place → ⊥) = λ e. clash (le-leb received (stateOf (wordAt r place)) (rw e at a)) away in
-        rw (d .some-before g, d .there (namedOf r - 1) o) a);
+        rw (d .some-before g, d .there (namedOf r - 1) (other g)) (h .sound .named g));
     none = λ z. absurd (named-some z);
   }
 
-  place-holds : Holds first interval s
-  place-holds = record {
-    size = d .size;
-    sound = place-sound;
-    is-first = d .is-first ∙ h .is-first;
-    is-interval = d .is-interval ∙ h .is-interval;
-    plain = λ p l.
-        either (eqb p place)
-        (λ e. let q : p ≡ place = eqb-true p place e in rw (q, d .here) (λ z. absurd (omega arith)))
-        (λ e. rw (d .there p (eqb-false p place e)) (h .plain p l));
-  }
-
-  pub place-step : Step first interval r s (λ k. place + 1) (λ p a. pick (eqb p place) word a) (λ p e. e)
+  pub place-step : Step first interval r s (λ k. firstCame place time) (λ p a. pick (eqb p place) (came time late) a) (λ p e. e)
   place-step = record {
-    holds = place-holds;
+    holds = record { size = d .size; sound = place-sound; is-first = d .is-first ∙ h .is-first; is-interval = d .is-interval ∙ h .is-interval };
     names = λ k.
-        rw (ne-eqb (namedOf s) 0 named-some)
-        (split (namedOf r) 0
-        (λ l. let z : namedOf r ≡ 0 = omega arith in rw (eq-eqb (namedOf r) 0 z) (d .none-before z))
-        (λ l. let g : namedOf r ≡ 0 → ⊥ = λ z. absurd (omega arith) in rw (ne-eqb (namedOf r) 0 g) (d .some-before g)));
-    words = λ p a e l.
+        split (namedOf r) 0
+        (λ l.
+        let z : namedOf r ≡ 0 = omega arith in
+        let e : namedOf s - 1 ≡ place = omega (arith, d .none-before z) in
+        rw (eq-eqb (namedOf r) 0 z, ne-eqb (namedOf s) 0 named-some, e, d .here, when))
+        (λ l.
+        let g : namedOf r ≡ 0 → ⊥ = λ z. absurd (omega arith) in
+        ap (λ (f : FirstArrival). firstThen f k) (same-arrival r s (d .some-before g) (λ g. d .there (namedOf r - 1) (other g))) ∙ rw (ne-eqb (namedOf r) 0 g));
+    fates = λ p a e.
         either (eqb p place)
-        (λ t. let q : p ≡ place = eqb-true p place t in rw (q, d .here, away, le-leb received (stateOf word) arrived, eq-eqb place place refl, ne-eqb word 0 (arrived-some word arrived)))
+        (λ t.
+        let q : p ≡ place = eqb-true p place t in
+        rw (q, d .here, eq-eqb place place refl)
+        (ap (λ (f : Fate). fateThen f a e) says ∙ then-comes (fateOf (wordAt r place)) e time late (word-came (wordAt r place) ∙ away)))
         (λ t. rw (t, d .there p (eqb-false p place t)));
   }

@@ -1,4 +1,4 @@
--- What the tracker makes is what the writer of reports takes: the sum of the parts, the writer's rules, and through the writer and back.
+-- What the tracker makes of any record is what the writer of reports takes: the writer's rules, and through the writer and back.
 use Prim.Native.Nat.{ℕ, _*_, _≤_, _<_}
 use mathlib.Core.Path.{_≡_}
 use mathlib.Core.List.{List}
@@ -10,35 +10,33 @@ use Rattle.entries.specs.Exactly.{Obeys}
 use Rattle.entries.specs.declared.Profile.the-variants.{One}
 use Rattle.report.specs.Header.{numbersOf}
 use Rattle.report.specs.Writer.{reportSize, writeAnswer, writeBytes}
-use Rattle.report.specs.Exactly.{SumHolds, Passes}
+use Rattle.report.specs.Exactly.{Passes}
 use Rattle.report.specs.EachWay.{ReadsBack}
 use Rattle.report.specs.declared.Written.the-variants.{Done}
+use Rattle.tracker.specs.Known.{Known}
+use Rattle.tracker.specs.Record.{known}
 use Rattle.tracker.specs.Report.{totalOf, summaryOf, entriesAt, reportRefusal}
-
--- "Prove that total equals the three parts, each defined from the arrivals": each counts objects by their status
-abbrev pub TotalIsParts : Type 0
-TotalIsParts = (r : List ℕ) (time interval : ℕ) → SumHolds (summaryOf r time interval)
 
 -- the header's entry count is the number of records made
 abbrev pub EntriesCounted : Type 0
-EntriesCounted = (r : List ℕ) (time interval : ℕ) → length (entriesAt r time) ≡ recordSize One * summaryOf r time interval .entries
+EntriesCounted = (k : Known) (time interval : ℕ) → length (entriesAt k time) ≡ recordSize One * summaryOf k time interval .entries
 
 -- header and records pass the writer, with any maximum that passes: its numbers, its sum, no metrics; each record obeys its rule and the objects rise
 abbrev pub WriterTakes : Type 0
-WriterTakes = (r : List ℕ) (time interval room maximum : ℕ) → reportRefusal r time interval room ≡ 0 → maximum ≤ mostEntries → Passes One (summaryOf r time interval) (entriesAt r time) maximum
+WriterTakes = (r : List ℕ) (time interval room maximum : ℕ) → reportRefusal r time interval room ≡ 0 → maximum ≤ mostEntries → Passes One (summaryOf (known r) time interval) (entriesAt (known r) time) maximum
 
 -- every object has at most one entry: each record is an entry, and its object number is above its forerunner's
 abbrev pub EntriesRise : Type 0
-EntriesRise = (r : List ℕ) (time interval room : ℕ) → reportRefusal r time interval room ≡ 0 → (i : ℕ) → i < totalOf r time → Obeys One (entriesAt r time) i
+EntriesRise = (r : List ℕ) (time interval room : ℕ) → reportRefusal r time interval room ≡ 0 → (i : ℕ) → i < totalOf (known r) time → Obeys One (entriesAt (known r) time) i
 
 -- written, and read again: the header, and exactly the records that the writer kept
 pub record GoesThrough (r : List ℕ) (time interval maximum : ℕ) (xs : List ℕ) : Type 0 where
   pub next : ℕ
   pub kept : ℕ
-  pub written : Done next kept ≡ writeAnswer One (summaryOf r time interval) (entriesAt r time) maximum (length xs)
-  pub back : ReadsBack One (summaryOf r time interval) (entriesAt r time) (writeBytes One (summaryOf r time interval) (entriesAt r time) maximum xs) next kept
+  pub written : Done next kept ≡ writeAnswer One (summaryOf (known r) time interval) (entriesAt (known r) time) maximum (length xs)
+  pub back : ReadsBack One (summaryOf (known r) time interval) (entriesAt (known r) time) (writeBytes One (summaryOf (known r) time interval) (entriesAt (known r) time) maximum xs) next kept
 
 abbrev pub ThroughAndBack : Type 0
 ThroughAndBack =
     (r : List ℕ) (time interval room maximum : ℕ) (xs : List ℕ) → reportRefusal r time interval room ≡ 0 → maximum ≤ mostEntries
-    → reportSize One (length (encodeAll (numbersOf One (summaryOf r time interval)))) 0 ≤ length xs → GoesThrough r time interval maximum xs
+    → reportSize One (length (encodeAll (numbersOf One (summaryOf (known r) time interval)))) 0 ≤ length xs → GoesThrough r time interval maximum xs

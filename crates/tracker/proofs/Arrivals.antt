@@ -7,7 +7,8 @@ use mathlib.Core.List.{List}
 use native.Mathlib.Numerals.{add-one}
 use borrow.Author.Tests.{le-leb, lt-leb}
 use Rattle.wire.proofs.Lengths.{split}
-use Rattle.tracker.specs.Record.{mostObjects, wordAt, stateOf, received, hasArrived, noneArrived}
+use Rattle.tracker.specs.Known.{mostObjects}
+use Rattle.tracker.specs.Record.{wordAt, stateOf, received, hasArrived, noneArrived}
 use Rattle.tracker.proofs.Walks.{remains, none-remains}
 
 -- a word says that its object arrived, or it does not

@@ -5,33 +5,28 @@ use mathlib.Core.Path.{_≡_, refl, ap, _∙_}
 use mathlib.Core.Bool.{Bool, true, false}
 use mathlib.Core.List.{List, [], _++_}
 use native.Mathlib.Omega.{arith}
-use borrow.Author.Tests.{leb-true, le-ltb, ne-eqb}
+use borrow.Author.Tests.{le-ltb, ne-eqb}
 use lib.Dec.{eqb, ltb}
 use lib.ListN.{length, length-append}
 use Rattle.wire.specs.Bytes.{pick}
-use Rattle.tracker.specs.Record.{mostObjects, wordAt, stateOf, received, consistent}
+use Rattle.tracker.specs.Known.{mostObjects, Known}
+use Rattle.tracker.specs.Record.{wordAt, fateOf, consistent, known}
 use Rattle.tracker.specs.Status.{noStatus, isLost, statusFrom, statusAt, entryBytes, bytesAt, entriesFrom, howMany}
 use Rattle.tracker.specs.Counting.{noArrival, spreadFrom, lossEnd, statusesBy, countedIn, countsFrom}
 use Rattle.tracker.specs.declared.Counts.{Counts}
 use Rattle.tracker.proofs.Arrivals.{arrives}
+use Rattle.tracker.proofs.Fates.{word-came, status-came}
 use Rattle.tracker.proofs.Losses.{lost-by-end}
 
 -- ---- the status by the end is the status
 
-status-arrived : (s : ℕ) (a b : Bool) → received ≤ s → s < 4 → statusFrom s a ≡ statusFrom s b
-status-arrived zero a b l h = absurd (omega arith)
-status-arrived (suc zero) a b l h = absurd (omega arith)
-status-arrived (suc (suc zero)) a b l h = refl
-status-arrived (suc (suc (suc zero))) a b l h = refl
-status-arrived (suc (suc (suc (suc s)))) a b l h = absurd (omega arith)
-
 pub status-agrees : (r : List ℕ) (time place : ℕ) → consistent r ≡ true → place < mostObjects
-    → statusAt r time place ≡ statusesBy (lossEnd r time (spreadFrom r mostObjects 0 noArrival .top)) r place
+    → statusAt (known r) time place ≡ statusesBy (lossEnd r time (spreadFrom r mostObjects 0 noArrival .top)) r place
 unfolding statusAt
 status-agrees r time place sound h =
     arrives (wordAt r place)
-    (λ a. status-arrived (stateOf (wordAt r place)) (isLost r time place) (ltb (place + 1) (lossEnd r time (spreadFrom r mostObjects 0 noArrival .top))) (leb-true received (stateOf (wordAt r place)) a) (omega arith))
-    (λ a. ap (statusFrom (stateOf (wordAt r place))) (lost-by-end r sound time place h a))
+    (λ a. status-came (fateOf (wordAt r place)) (isLost (known r) time place) (ltb (place + 1) (lossEnd r time (spreadFrom r mostObjects 0 noArrival .top))) (word-came (wordAt r place) ∙ a))
+    (λ a. ap (statusFrom (fateOf (wordAt r place))) (lost-by-end r sound time place h a))
 
 -- ---- how many: only the tests at these places matter
 
@@ -49,12 +44,12 @@ many-within f (suc n) place = go (f place) (many-within f n (suc place))
     go true l = omega arith
     go false l = omega arith
 
-pub entries-same : (f g : ℕ → ℕ) (r : List ℕ) (time n place : ℕ) → ((p : ℕ) → p < place + n → f p ≡ g p) → entriesFrom f r time n place ≡ entriesFrom g r time n place
+pub entries-same : (f g : ℕ → ℕ) (k : Known) (time n place : ℕ) → ((p : ℕ) → p < place + n → f p ≡ g p) → entriesFrom f k time n place ≡ entriesFrom g k time n place
 unfolding entriesFrom
-entries-same f g r time zero place h = refl
-entries-same f g r time (suc n) place h =
-    ap (λ (s : ℕ). bytesAt r time s place ++ entriesFrom f r time n (suc place)) (h place (omega arith))
-    ∙ ap (λ (l : List ℕ). bytesAt r time (g place) place ++ l) (entries-same f g r time n (suc place) (λ p l. h p (omega arith)))
+entries-same f g k time zero place h = refl
+entries-same f g k time (suc n) place h =
+    ap (λ (s : ℕ). bytesAt k time s place ++ entriesFrom f k time n (suc place)) (h place (omega arith))
+    ∙ ap (λ (l : List ℕ). bytesAt k time (g place) place ++ l) (entries-same f g k time n (suc place) (λ p l. h p (omega arith)))
 
 -- ---- the counts of the walk, each field by the same law
 
@@ -103,17 +98,17 @@ total-parts status (suc n) place = omega (arith, one-part (status place), total-
 
 -- ---- each entry is 16 bytes
 
-bytes-length : (r : List ℕ) (time status place : ℕ) → length (bytesAt r time status place) ≡ 16 * pick (ltb status noStatus) 1 0
-bytes-length r time status place = go (ltb status noStatus) _ _
+bytes-length : (k : Known) (time status place : ℕ) → length (bytesAt k time status place) ≡ 16 * pick (ltb status noStatus) 1 0
+bytes-length k time status place = go (ltb status noStatus) _ _
   where
     go : (b : Bool) (object age : ℕ) → length (pick b (entryBytes object status age) []) ≡ 16 * pick b 1 0
     go true object age = refl
     go false object age = refl
 
-pub entries-length : (status : ℕ → ℕ) (r : List ℕ) (time n place : ℕ) → length (entriesFrom status r time n place) ≡ 16 * howMany (λ p. ltb (status p) noStatus) n place
+pub entries-length : (status : ℕ → ℕ) (k : Known) (time n place : ℕ) → length (entriesFrom status k time n place) ≡ 16 * howMany (λ p. ltb (status p) noStatus) n place
 unfolding entriesFrom howMany
-entries-length status r time zero place = refl
-entries-length status r time (suc n) place =
-    let m = entries-length status r time n (suc place) in
-    let l = length-append (bytesAt r time (status place) place) (entriesFrom status r time n (suc place)) in
-    omega (arith, l, m, bytes-length r time (status place) place)
+entries-length status k time zero place = refl
+entries-length status k time (suc n) place =
+    let m = entries-length status k time n (suc place) in
+    let l = length-append (bytesAt k time (status place) place) (entriesFrom status k time n (suc place)) in
+    omega (arith, l, m, bytes-length k time (status place) place)

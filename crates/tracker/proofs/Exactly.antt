@@ -15,9 +15,10 @@ use Rattle.wire.specs.Numbers.{limit}
 use Rattle.wire.proofs.Lengths.{split}
 use Rattle.entries.specs.Profiles.{recordSize}
 use Rattle.entries.specs.declared.Profile.the-variants.{One}
-use Rattle.tracker.specs.Record.{mostObjects, firstOf, intervalOf, namedOf, wordAt, stateOf, received, noneArrived, firstNamed, bothObey, consistent}
+use Rattle.tracker.specs.Known.{mostObjects}
+use Rattle.tracker.specs.Record.{firstOf, intervalOf, namedOf, wordAt, stateOf, received, noneArrived, firstNamed, bothObey, consistent, known}
 use Rattle.tracker.specs.Calls.{inside, openRefusal, opened, objectRefusal, arrivedRefusal, endedRefusal, placeOf}
-use Rattle.tracker.specs.Report.{totalOf, reportRefusal, reportBytes, storedUnless, entriesAt}
+use Rattle.tracker.specs.Report.{totalOf, madeRefusal, reportRefusal, reportBytes, storedUnless, entriesAt}
 use Rattle.tracker.specs.Exactly.{Arrived, Consistent, ConsistentExactly, OpenObeys, OpenRows, Inside, ObjectRows, ArrivalObeys, EndObeys, InRange, ReportRows, Exactly, Unchanged}
 use Rattle.tracker.proofs.Arrivals.{arrives}
 use Rattle.tracker.proofs.Tests.{clash}
@@ -136,7 +137,7 @@ object-rows r object Obeys false b c s t u = record {
   others = inr (inl refl);
 }
 
-report-rows : (r : List ℕ) (time interval room : ℕ) (a b c d : Bool) → Says a (Consistent r) → Says b (EndObeys time interval) → Says c (InRange r) → Says d (recordSize One * totalOf r time ≤ room)
+report-rows : (r : List ℕ) (time interval room : ℕ) (a b c d : Bool) → Says a (Consistent r) → Says b (EndObeys time interval) → Says c (InRange r) → Says d (recordSize One * totalOf (known r) time ≤ room)
     → ReportRows r time interval room (pick a (pick b (pick c (pick d 0 9) 5) 5) 1)
 report-rows r time interval room true true true true s t u v = record {
   one = (no 0 1 refl, λ f. absurd (f (s .holds refl)));
@@ -178,13 +179,13 @@ within : (r : List ℕ) (object : ℕ) → Says (inside r object) (Inside r obje
 within r object = both (at-most (firstOf r) object) (less (placeOf r object) mostObjects)
 
 pub exactly : Exactly
-unfolding openRefusal objectRefusal arrivedRefusal endedRefusal reportRefusal
+unfolding openRefusal objectRefusal arrivedRefusal endedRefusal madeRefusal reportRefusal
 exactly =
     record {
       opening = λ first interval. open-rows first interval _ (two-small (first + 255) interval);
       arrived = λ r object time deadline. object-rows r object (ArrivalObeys object time deadline) _ _ _ (sound r) (both (two-small object time) (at-most deadline (limit + 1))) (within r object);
       ended = λ r object time. object-rows r object (EndObeys object time) _ _ _ (sound r) (two-small object time) (within r object);
-      report = λ r time interval room. report-rows r time interval room _ _ _ _ (sound r) (two-small time interval) (at-most _ limit) (at-most (recordSize One * totalOf r time) room);
+      report = λ r time interval room. report-rows r time interval room _ _ _ _ (sound r) (two-small time interval) (at-most _ limit) (at-most (recordSize One * totalOf (known r) time) room);
     }
 
 stays : (n : ℕ) (entries xs : List ℕ) → (n ≡ 0 → ⊥) → storedUnless n entries xs ≡ xs
@@ -198,5 +199,5 @@ unchanged =
       opening = λ r first interval f. sym (refused-stays (openRefusal first interval) r (opened first interval) f);
       arrived = λ r object time deadline f. sym (refused-stays (arrivedRefusal r object time deadline) r _ f);
       ended = λ r object time f. sym (refused-stays (endedRefusal r object time) r _ f);
-      report = λ r time interval xs f. stays (reportRefusal r time interval (length xs)) (entriesAt r time) xs f;
+      report = λ r time interval xs f. stays (reportRefusal r time interval (length xs)) (entriesAt (known r) time) xs f;
     }

@@ -10,7 +10,8 @@ use lib.Dec.{leb, ltb}
 use lib.ListN.{set}
 use Rattle.wire.specs.Numbers.{limit}
 use Rattle.tracker.proofs.Tests.{either, and-left, and-right}
-use Rattle.tracker.specs.Record.{mostObjects, firstOf, namedOf, wordAt, stateOf, nothing, hasArrived, bothObey, consistent}
+use Rattle.tracker.specs.Known.{mostObjects}
+use Rattle.tracker.specs.Record.{firstOf, namedOf, wordAt, stateOf, nothing, hasArrived, bothObey, consistent}
 use Rattle.tracker.specs.Calls.{unlessRefused, inside, objectRefusal, arrivalObeys, arrivedRefusal, withNamed, withArrival, endedRefusal, withEnd}
 
 -- a refused call leaves the record as it was

@@ -1,5 +1,6 @@
 pub mod Tests
 pub mod Arrivals
+pub mod Fates
 pub mod Judging
 pub mod Walks
 pub mod Signed

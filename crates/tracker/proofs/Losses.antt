@@ -1,7 +1,7 @@
 -- The end that the code works out tells exactly the objects that are lost, so that the status by it is the status.
 -- Assumes nothing.
 use Prim.Native.Nat.{ℕ, zero, suc, _+_, _-_, _*_, _/_, _≤_, _<_, max}
-use mathlib.Core.Path.{_≡_, refl, ap, _∙_}
+use mathlib.Core.Path.{_≡_, refl, sym, ap, _∙_}
 use mathlib.Core.Bool.{Bool, true, false, not, _&&_}
 use mathlib.Core.List.{List}
 use native.Mathlib.Nat.{add-zero, zero-add, suc-add, zero-mul, mul-comm, add-mul, le-div-iff-mul-le, max-eq-left, max-eq-right}
@@ -11,12 +11,14 @@ use borrow.Author.Tests.{lt-ltb, le-ltb, eq-eqb, ne-eqb, leb-true}
 use lib.Dec.{eqb, leb, ltb}
 use Rattle.wire.specs.Bytes.{pick}
 use Rattle.wire.proofs.Lengths.{split}
-use Rattle.tracker.specs.Record.{mostObjects, firstOf, intervalOf, namedOf, wordAt, timeOf, hasArrived, noneArrived, firstNamed, numbersObey, consistent}
-use Rattle.tracker.specs.Status.{largerArrived, firstPlace, firstTime, isLost}
+use Rattle.tracker.specs.Known.{mostObjects}
+use Rattle.tracker.specs.Record.{firstOf, intervalOf, namedOf, wordAt, timeOf, hasArrived, noneArrived, firstNamed, numbersObey, consistent, firstPlace, firstTime, known}
+use Rattle.tracker.specs.Status.{largerArrived, isLost}
 use Rattle.tracker.specs.Counting.{noArrival, widened, spreadFrom, reached, reachOf, lossEnd}
 use Rattle.tracker.specs.declared.Spread.{Spread}
 use Rattle.tracker.proofs.Tests.{clash, and-left, and-right}
 use Rattle.tracker.proofs.Arrivals.{arrives}
+use Rattle.tracker.proofs.Fates.{some-came}
 
 -- ---- "none arrived" over a part
 
@@ -81,14 +83,14 @@ module _ (r : List ℕ) where
   fall false c e = refl
 
   -- a larger number arrived exactly where the end of the highest place lies above
-  pub larger-by-top : (p : ℕ) → p < mostObjects → ltb (p + 1) (spreadFrom r mostObjects 0 noArrival .top) ≡ largerArrived r p
+  pub larger-by-top : (p : ℕ) → p < mostObjects → ltb (p + 1) (spreadFrom r mostObjects 0 noArrival .top) ≡ largerArrived (known r) p
   larger-by-top p h =
       let e : mostObjects ≡ suc p + (mostObjects - suc p) = omega arith in
       let q : 0 + suc p ≡ suc p = omega arith in
       let start : Spread = spreadFrom r (suc p) 0 noArrival in
       let w : start .top ≤ suc p = rw q at (top-within (suc p) 0 noArrival (omega arith)) in
       ap (λ (s : Spread). ltb (p + 1) (s .top)) (ap (λ (k : ℕ). spreadFrom r k 0 noArrival) e ∙ spread-splits (suc p) (mostObjects - suc p) 0 noArrival)
-      ∙ rw (q, add-one p) (top-above (mostObjects - suc p) (suc p) p start (omega arith) ∙ fall (noneArrived (mostObjects - suc p) (suc p) r) (ltb (suc p) (start .top)) (le-ltb (suc p) (start .top) w))
+      ∙ rw (q, add-one p) (top-above (mostObjects - suc p) (suc p) p start (omega arith) ∙ fall (noneArrived (mostObjects - suc p) (suc p) r) (ltb (suc p) (start .top)) (le-ltb (suc p) (start .top) w) ∙ sym (some-came r (mostObjects - suc p) (suc p)))
 
 -- ---- the time that has passed, by a division and no product
 
@@ -154,7 +156,7 @@ module _ (r : List ℕ) (sound : consistent r ≡ true) where
   -- ---- an object that has not arrived is lost exactly where its place is more than one below the end
 
   pub lost-by-end : (time p : ℕ) → p < mostObjects → hasArrived (wordAt r p) ≡ false
-      → isLost r time p ≡ ltb (p + 1) (lossEnd r time (spreadFrom r mostObjects 0 noArrival .top))
+      → isLost (known r) time p ≡ ltb (p + 1) (lossEnd r time (spreadFrom r mostObjects 0 noArrival .top))
   unfolding lossEnd
   lost-by-end time p h away =
       split (namedOf r) 0
@@ -163,7 +165,7 @@ module _ (r : List ℕ) (sound : consistent r ≡ true) where
       let q : 0 + suc p ≡ suc p = omega arith in
       let e : suc p + (mostObjects - suc p) ≡ mostObjects = omega arith in
       let none : noneArrived (mostObjects - suc p) (suc p) r ≡ true = rw q at (none-later r (suc p) (mostObjects - suc p) 0 (rw e (none-named n))) in
-      rw (eq-eqb (namedOf r) 0 n, none, le-ltb (p + 1) 0 (omega arith)))
+      rw (some-came r (mostObjects - suc p) (suc p), eq-eqb (namedOf r) 0 n, none, le-ltb (p + 1) 0 (omega arith)))
       (λ z.
       let f : namedOf r ≡ 0 → ⊥ = λ e. absurd (omega arith) in
       let here = first-arrived f in
@@ -173,4 +175,4 @@ module _ (r : List ℕ) (sound : consistent r ≡ true) where
       (λ k. rw (lt-ltb (firstPlace r) p (omega arith), overdue-by-reach (intervalOf r) (firstTime r) time (firstPlace r) p (omega arith) h))
       (λ k. split (firstPlace r) p
       (λ j. let q : firstPlace r ≡ p = omega arith in clash (rw q at here) away)
-      (λ j. rw (one-arrived r (mostObjects - suc p) (suc p) (firstPlace r) (omega arith) (omega arith) here)))))
+      (λ j. rw (some-came r (mostObjects - suc p) (suc p), one-arrived r (mostObjects - suc p) (suc p) (firstPlace r) (omega arith) (omega arith) here)))))

@@ -17,11 +17,12 @@ use Rattle.report.specs.Average.{storedOf}
 use Rattle.report.specs.Header.{emptyHeader}
 use Rattle.report.specs.declared.Header.{Header}
 use Rattle.report.specs.declared.Report.{Report}
-use Rattle.tracker.specs.Record.{mostObjects, intervalOf, bothObey, consistent}
+use Rattle.tracker.specs.Known.{mostObjects}
+use Rattle.tracker.specs.Record.{intervalOf, bothObey, consistent, known}
 use Rattle.tracker.specs.Status.{statusAt, entriesFrom, howMany}
 use Rattle.tracker.specs.Average.{arrivalTimes}
 use Rattle.tracker.specs.Counting.{noArrival, spreadFrom, lossEnd, statusesBy, noCounts, countsFrom, meanBy, signedOf}
-use Rattle.tracker.specs.Report.{withStatus, totalOf, averageAt, headerOf, summaryOf, entriesAt, averageFits, reportRefusal, reportAnswer, reportBytes}
+use Rattle.tracker.specs.Report.{withStatus, totalOf, averageAt, headerOf, summaryOf, entriesAt, averageFits, madeRefusal, reportRefusal, reportAnswer, reportBytes}
 use Rattle.tracker.specs.declared.Spread.{Spread}
 use Rattle.tracker.specs.declared.Counts.{Counts}
 use Rattle.tracker.specs.declared.Mean.{Mean}
@@ -31,12 +32,12 @@ use Rattle.tracker.proofs.Gaps.{times-many, average-agrees}
 -- ---- what was worked out
 
 pub record Made (r : List ℕ) (time end : ℕ) (c : Counts) (mean : Mean) : Type 0 where
-  pub received : c .received ≡ withStatus r time 0
-  pub late : c .late ≡ withStatus r time 1
-  pub missing : c .missing ≡ withStatus r time 2
-  pub partial : c .partial ≡ withStatus r time 3
-  pub average : signedOf mean ≡ averageAt r
-  pub entries : entriesFrom (statusesBy end r) r time mostObjects 0 ≡ entriesAt r time
+  pub received : c .received ≡ withStatus (known r) time 0
+  pub late : c .late ≡ withStatus (known r) time 1
+  pub missing : c .missing ≡ withStatus (known r) time 2
+  pub partial : c .partial ≡ withStatus (known r) time 3
+  pub average : signedOf mean ≡ averageAt (known r)
+  pub entries : entriesFrom (statusesBy end r) (known r) time mostObjects 0 ≡ entriesAt (known r) time
 
 module _ (r : List ℕ) (time : ℕ) (sound : consistent r ≡ true) where
   -- the spread, the end and the counts of the code
@@ -49,14 +50,14 @@ module _ (r : List ℕ) (time : ℕ) (sound : consistent r ≡ true) where
   abbrev all : Counts
   all = countsFrom last r mostObjects 0 noCounts
 
-  agrees : (p : ℕ) → p < 0 + mostObjects → statusesBy last r p ≡ statusAt r time p
+  agrees : (p : ℕ) → p < 0 + mostObjects → statusesBy last r p ≡ statusAt (known r) time p
   agrees p h = sym (status-agrees r time p sound (omega arith))
 
-  counted : (status : ℕ) → howMany (λ p. eqb (statusesBy last r p) status) mostObjects 0 ≡ withStatus r time status
-  counted status = many-same (λ p. eqb (statusesBy last r p) status) (λ p. eqb (statusAt r time p) status) mostObjects 0 (λ p h. ap (λ (s : ℕ). eqb s status) (agrees p h))
+  counted : (status : ℕ) → howMany (λ p. eqb (statusesBy last r p) status) mostObjects 0 ≡ withStatus (known r) time status
+  counted status = many-same (λ p. eqb (statusesBy last r p) status) (λ p. eqb (statusAt (known r) time p) status) mostObjects 0 (λ p h. ap (λ (s : ℕ). eqb s status) (agrees p h))
 
-  arrivals : length (arrivalTimes r mostObjects 0) ≡ all .received + all .late
-  arrivals = times-many r (λ p. ltb (p + 1) last) mostObjects 0 ∙ omega (arith, received-counted last r mostObjects 0 noCounts, late-counted last r mostObjects 0 noCounts)
+  arrivals : length (arrivalTimes (known r .became) mostObjects 0) ≡ all .received + all .late
+  arrivals = times-many (known r .became) (λ p. ltb (p + 1) last) mostObjects 0 ∙ omega (arith, received-counted last r mostObjects 0 noCounts, late-counted last r mostObjects 0 noCounts)
 
   here : Made r time last all (meanBy (whole .latest - whole .earliest) (all .received + all .late - 1) (intervalOf r))
   here =
@@ -66,7 +67,7 @@ module _ (r : List ℕ) (time : ℕ) (sound : consistent r ≡ true) where
         missing = missing-counted last r mostObjects 0 noCounts ∙ omega (arith, counted 2);
         partial = partial-counted last r mostObjects 0 noCounts ∙ omega (arith, counted 3);
         average = ap (λ (n : ℕ). signedOf (meanBy (whole .latest - whole .earliest) (n - 1) (intervalOf r))) (sym arrivals) ∙ average-agrees r (intervalOf r);
-        entries = entries-same (statusesBy last r) (statusAt r time) r time mostObjects 0 agrees;
+        entries = entries-same (statusesBy last r) (statusAt (known r) time) (known r) time mostObjects 0 agrees;
       }
 
   pub made : {s : Spread} {end : ℕ} {c : Counts} {gaps spread : ℕ} {mean : Mean} → s ≡ spreadFrom r mostObjects 0 noArrival → end ≡ lossEnd r time (s .top) → c ≡ countsFrom end r mostObjects 0 noCounts
@@ -74,16 +75,16 @@ module _ (r : List ℕ) (time : ℕ) (sound : consistent r ≡ true) where
   made e f g h i j = rw (j, i, h, g, f, e) here
 
 module _ {r : List ℕ} {time end : ℕ} {c : Counts} {mean : Mean} (m : Made r time end c mean) where
-  pub total-is : c .received + c .late + (c .missing + c .partial) ≡ totalOf r time
-  total-is = omega (arith, m .received, m .late, m .missing, m .partial, total-parts (statusAt r time) mostObjects 0)
+  pub total-is : c .received + c .late + (c .missing + c .partial) ≡ totalOf (known r) time
+  total-is = omega (arith, m .received, m .late, m .missing, m .partial, total-parts (statusAt (known r) time) mostObjects 0)
 
   pub header-is : (interval : ℕ) {h : Header} {average : ℤ} → average ≡ signedOf mean
-      → h ≡ headerOf time interval (c .received + c .late + (c .missing + c .partial)) (c .received) (c .late) (c .missing + c .partial) average → h ≡ summaryOf r time interval
+      → h ≡ headerOf time interval (c .received + c .late + (c .missing + c .partial)) (c .received) (c .late) (c .missing + c .partial) average → h ≡ summaryOf (known r) time interval
   unfolding summaryOf
   header-is interval e f = f ∙ rw (e, m .average, total-is, m .received, m .late, m .missing, m .partial)
 
-  pub entries-long : length (entriesFrom (statusesBy end r) r time mostObjects 0) ≡ 16 * totalOf r time
-  entries-long = ap length (m .entries) ∙ entries-length (statusAt r time) r time mostObjects 0
+  pub entries-long : length (entriesFrom (statusesBy end r) (known r) time mostObjects 0) ≡ 16 * totalOf (known r) time
+  entries-long = ap length (m .entries) ∙ entries-length (statusAt (known r) time) (known r) time mostObjects 0
 
 -- no count passes the number of objects
 pub record Few (c : Counts) : Type 0 where
@@ -115,27 +116,27 @@ range-small mean e = go (mean .below) (mean .size) (leb-true (storedOf (signedOf
 
 module _ (r : List ℕ) (time interval room : ℕ) where
   pub refused-one : consistent r ≡ false → reportRefusal r time interval room ≡ 1
-  unfolding reportRefusal
+  unfolding reportRefusal madeRefusal
   refused-one e = rw e
 
   module _ (sound : consistent r ≡ true) where
     pub refused-five : bothObey time interval ≡ false → reportRefusal r time interval room ≡ 5
-    unfolding reportRefusal
+    unfolding reportRefusal madeRefusal
     refused-five e = rw (sound, e)
 
     module _ (small : bothObey time interval ≡ true) where
-      pub refused-range : averageFits r ≡ false → reportRefusal r time interval room ≡ 5
-      unfolding reportRefusal
+      pub refused-range : averageFits (known r) ≡ false → reportRefusal r time interval room ≡ 5
+      unfolding reportRefusal madeRefusal
       refused-range e = rw (sound, small, e)
 
-      module _ (fits : averageFits r ≡ true) where
-        pub refused-room : room < recordSize One * totalOf r time → reportRefusal r time interval room ≡ 9
-        unfolding reportRefusal
-        refused-room h = rw (sound, small, fits, lt-leb (recordSize One * totalOf r time) room h)
+      module _ (fits : averageFits (known r) ≡ true) where
+        pub refused-room : room < recordSize One * totalOf (known r) time → reportRefusal r time interval room ≡ 9
+        unfolding reportRefusal madeRefusal
+        refused-room h = rw (sound, small, fits, lt-leb (recordSize One * totalOf (known r) time) room h)
 
-        pub accepted-room : recordSize One * totalOf r time ≤ room → reportRefusal r time interval room ≡ 0
-        unfolding reportRefusal
-        accepted-room h = rw (sound, small, fits, le-leb (recordSize One * totalOf r time) room h)
+        pub accepted-room : recordSize One * totalOf (known r) time ≤ room → reportRefusal r time interval room ≡ 0
+        unfolding reportRefusal madeRefusal
+        accepted-room h = rw (sound, small, fits, le-leb (recordSize One * totalOf (known r) time) room h)
 
 -- ---- the answer and the lent buffer
 
@@ -145,7 +146,7 @@ module _ (r : List ℕ) (time interval : ℕ) (xs : List ℕ) where
   unfolding reportAnswer reportBytes
   answer-refused f e = rw e (f, refl)
 
-  pub answer-made : {h : Header} {made new : List ℕ} → reportRefusal r time interval (length xs) ≡ 0 → h ≡ summaryOf r time interval → new ≡ splice xs 0 made → made ≡ entriesAt r time
+  pub answer-made : {h : Header} {made new : List ℕ} → reportRefusal r time interval (length xs) ≡ 0 → h ≡ summaryOf (known r) time interval → new ≡ splice xs 0 made → made ≡ entriesAt (known r) time
       → (record { refusal = 0; header = h } ≡ reportAnswer r time interval (length xs)) × (new ≡ reportBytes r time interval xs)
   unfolding reportAnswer reportBytes
   answer-made e f g k = rw (e, f) (refl, g ∙ ap (splice xs 0) k)

@@ -12,8 +12,8 @@ use Rattle.wire.specs.Bytes.{splice}
 use Rattle.wire.specs.Fields.{fixed, written}
 use Rattle.wire.proofs.Bytes.{splice-splice}
 use Rattle.wire.proofs.Writing.{placed-yes}
-use Rattle.tracker.specs.Record.{mostObjects, firstOf, wordAt, timeOf}
-use Rattle.tracker.specs.Status.{noStatus, ageOf, entryBytes, bytesAt, entriesFrom}
+use Rattle.tracker.specs.Known.{mostObjects, Known}
+use Rattle.tracker.specs.Status.{noStatus, sinceOf, ageOf, entryBytes, bytesAt, entriesFrom}
 use Rattle.tracker.proofs.Walks.{remains, none-remains}
 
 pub length-splice : (xs ys : List ℕ) (at : ℕ) → at + length ys ≤ length xs → length (splice xs at ys) ≡ length xs
@@ -49,48 +49,48 @@ entry-stored xs at object status age h known e f g =
 -- ---- the entries to come
 
 -- those from a place on, as many as remain
-abbrev pub rest : (ℕ → ℕ) → List ℕ → ℕ → ℕ → List ℕ
-rest status r time place = entriesFrom status r time (mostObjects - place) place
+abbrev pub rest : (ℕ → ℕ) → Known → ℕ → ℕ → List ℕ
+rest status k time place = entriesFrom status k time (mostObjects - place) place
 
 -- the buffer where the entries to come belong at a place of it: they fit, and laid there they give the whole
-pub record Laying (status : ℕ → ℕ) (r : List ℕ) (time place at room : ℕ) (xs whole : List ℕ) : Type 0 where
+pub record Laying (status : ℕ → ℕ) (k : Known) (time place at room : ℕ) (xs whole : List ℕ) : Type 0 where
   pub same : length xs ≡ room
-  pub fits : at + length (rest status r time place) ≤ length xs
-  pub gives : splice xs at (rest status r time place) ≡ whole
+  pub fits : at + length (rest status k time place) ≤ length xs
+  pub gives : splice xs at (rest status k time place) ≡ whole
 
-pub laying-starts : (status : ℕ → ℕ) (r : List ℕ) (time : ℕ) (xs : List ℕ) → length (rest status r time 0) ≤ length xs
-    → Laying status r time 0 0 (length xs) xs (splice xs 0 (rest status r time 0))
-laying-starts status r time xs h = record { same = refl; fits = omega arith; gives = refl }
+pub laying-starts : (status : ℕ → ℕ) (k : Known) (time : ℕ) (xs : List ℕ) → length (rest status k time 0) ≤ length xs
+    → Laying status k time 0 0 (length xs) xs (splice xs 0 (rest status k time 0))
+laying-starts status k time xs h = record { same = refl; fits = omega arith; gives = refl }
 
-module _ (status : ℕ → ℕ) (r : List ℕ) (time place : ℕ) (h : place < mostObjects) {s : ℕ} (e : s ≡ status place) {at room : ℕ} {xs whole : List ℕ} (now : Laying status r time place at room xs whole) where
-  rest-splits : rest status r time place ≡ bytesAt r time (status place) place ++ rest status r time (place + 1)
+module _ (status : ℕ → ℕ) (k : Known) (time place : ℕ) (h : place < mostObjects) {s : ℕ} (e : s ≡ status place) {at room : ℕ} {xs whole : List ℕ} (now : Laying status k time place at room xs whole) where
+  rest-splits : rest status k time place ≡ bytesAt k time (status place) place ++ rest status k time (place + 1)
   unfolding entriesFrom
   rest-splits = rw (remains place h, add-one place)
 
   -- no entry: nothing is laid
-  pub lay-none : {at' : ℕ} {new : List ℕ} → noStatus ≤ s → new ≡ xs → at' ≡ at → Laying status r time (place + 1) at' room new whole
+  pub lay-none : {at' : ℕ} {new : List ℕ} → noStatus ≤ s → new ≡ xs → at' ≡ at → Laying status k time (place + 1) at' room new whole
   lay-none n f g =
-      let same-rest : rest status r time place ≡ rest status r time (place + 1) = rest-splits ∙ rw (le-ltb (status place) noStatus (rw e at n)) in
+      let same-rest : rest status k time place ≡ rest status k time (place + 1) = rest-splits ∙ rw (le-ltb (status place) noStatus (rw e at n)) in
       rw (f, g) (record { same = now .same; fits = omega (arith, ap length same-rest, now .fits); gives = ap (splice xs at) (sym same-rest) ∙ now .gives })
 
   -- an entry: its record is laid, and 16 bytes behind it those to come
-  module _ {age : ℕ} (known : s < noStatus) (old : age ≡ ageOf s time (timeOf (wordAt r place))) where
-    rest-longer : rest status r time place ≡ entryBytes (firstOf r + place) s age ++ rest status r time (place + 1)
+  module _ {age : ℕ} (known : s < noStatus) (old : age ≡ ageOf s time (sinceOf (k .became place))) where
+    rest-longer : rest status k time place ≡ entryBytes (k .first + place) s age ++ rest status k time (place + 1)
     rest-longer = rest-splits ∙ rw (← e, lt-ltb s noStatus known, old)
 
-    pub room-here : at + 16 + length (rest status r time (place + 1)) ≤ length xs
-    room-here = omega (arith, now .fits, ap length rest-longer, length-append (entryBytes (firstOf r + place) s age) (rest status r time (place + 1)))
+    pub room-here : at + 16 + length (rest status k time (place + 1)) ≤ length xs
+    room-here = omega (arith, now .fits, ap length rest-longer, length-append (entryBytes (k .first + place) s age) (rest status k time (place + 1)))
 
-    pub lay-one : {at' : ℕ} {new : List ℕ} → new ≡ splice xs at (entryBytes (firstOf r + place) s age) → at' ≡ at + 16 → Laying status r time (place + 1) at' room new whole
+    pub lay-one : {at' : ℕ} {new : List ℕ} → new ≡ splice xs at (entryBytes (k .first + place) s age) → at' ≡ at + 16 → Laying status k time (place + 1) at' room new whole
     lay-one f g =
-        let l = length-splice xs (entryBytes (firstOf r + place) s age) at (omega (arith, room-here)) in
+        let l = length-splice xs (entryBytes (k .first + place) s age) at (omega (arith, room-here)) in
         rw (f, g)
         (record {
           same = l ∙ now .same;
           fits = omega (arith, room-here, l);
-          gives = splice-splice xs (entryBytes (firstOf r + place) s age) (rest status r time (place + 1)) at (omega (arith, room-here)) ∙ ap (splice xs at) (sym rest-longer) ∙ now .gives;
+          gives = splice-splice xs (entryBytes (k .first + place) s age) (rest status k time (place + 1)) at (omega (arith, room-here)) ∙ ap (splice xs at) (sym rest-longer) ∙ now .gives;
         })
 
-pub rest-done : (status : ℕ → ℕ) (r : List ℕ) (time place : ℕ) (xs : List ℕ) (at : ℕ) → mostObjects ≤ place → splice xs at (rest status r time place) ≡ xs
+pub rest-done : (status : ℕ → ℕ) (k : Known) (time place : ℕ) (xs : List ℕ) (at : ℕ) → mostObjects ≤ place → splice xs at (rest status k time place) ≡ xs
 unfolding entriesFrom
-rest-done status r time place xs at h = rw (none-remains place h, add-zero) (take-append-drop at xs)
+rest-done status k time place xs at h = rw (none-remains place h, add-zero) (take-append-drop at xs)

@@ -10,7 +10,8 @@ use native.Mathlib.Omega.{arith}
 use lib.Dec.{eqb}
 use Rattle.wire.specs.Bytes.{pick}
 use Rattle.wire.specs.Numbers.{limit}
-use Rattle.tracker.specs.Record.{mostObjects, wordAt, timeOf, hasArrived}
+use Rattle.tracker.specs.Known.{mostObjects}
+use Rattle.tracker.specs.Record.{wordAt, timeOf, hasArrived}
 use Rattle.tracker.specs.Counting.{reached, widened, spreadFrom, statusBy, countedIn, countsFrom}
 use Rattle.tracker.specs.declared.Spread.{Spread}
 use Rattle.tracker.specs.declared.Counts.{Counts}

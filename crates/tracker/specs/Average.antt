@@ -5,13 +5,18 @@ use lib.Dec.{leb}
 use lib.IntN.{ℤ, pos, negsuc, negℤ, subℕ, _+ℤ_}
 use lib.ListN.{length}
 use Rattle.wire.specs.Bytes.{pick}
-use Rattle.tracker.specs.Record.{wordAt, timeOf, hasArrived}
+use Rattle.tracker.specs.Known.{Fate, unknown, ended, came}
 
--- the arrival times of n objects from a place on: "over arrived objects, late ones included"
-unfoldable pub arrivalTimes : List ℕ → ℕ → ℕ → List ℕ
-arrivalTimes r zero place = []
-arrivalTimes r (suc n) place =
-    pick (hasArrived (wordAt r place)) (timeOf (wordAt r place) ∷ arrivalTimes r n (suc place)) (arrivalTimes r n (suc place))
+-- "over arrived objects, late ones included"
+abbrev pub withTime : Fate → List ℕ → List ℕ
+withTime (came time late) times = time ∷ times
+withTime (ended time) times = times
+withTime unknown times = times
+
+-- the arrival times of n objects from a place on
+unfoldable pub arrivalTimes : (ℕ → Fate) → ℕ → ℕ → List ℕ
+arrivalTimes became zero place = []
+arrivalTimes became (suc n) place = withTime (became place) (arrivalTimes became n (suc place))
 
 -- "by arrival time"
 unfoldable pub insert : ℕ → List ℕ → List ℕ

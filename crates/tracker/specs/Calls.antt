@@ -6,7 +6,8 @@ use lib.Dec.{leb, ltb, eqb}
 use lib.ListN.{set, replicate}
 use Rattle.wire.specs.Bytes.{pick}
 use Rattle.wire.specs.Numbers.{limit}
-use Rattle.tracker.specs.Record.{mostObjects, firstOf, namedOf, wordAt, stateOf, wordOf, nothing, endedEarly, received, late, hasArrived, bothObey, numbersObey, consistent}
+use Rattle.tracker.specs.Known.{mostObjects}
+use Rattle.tracker.specs.Record.{firstOf, namedOf, wordAt, stateOf, wordOf, nothing, endedEarly, received, late, hasArrived, bothObey, numbersObey, consistent}
 
 -- the next record, or, beside a refusal, the record as it came
 abbrev pub unlessRefused : ℕ → List ℕ → List ℕ → List ℕ
@@ -38,8 +39,12 @@ among first object = leb first object && ltb (object - first) mostObjects
 abbrev pub inside : List ℕ → ℕ → Bool
 inside r object = among (firstOf r) object
 
+-- by its numbers alone
+abbrev pub numbersRefusal : ℕ → ℕ → Bool → ℕ
+numbersRefusal first object obey = pick obey (pick (among first object) 0 17) 5
+
 unfoldable pub objectRefusal : List ℕ → ℕ → Bool → ℕ
-objectRefusal r object obey = pick (consistent r) (pick obey (pick (inside r object) 0 17) 5) 1
+objectRefusal r object obey = pick (consistent r) (numbersRefusal (firstOf r) object obey) 1
 
 -- ---- "arrivals with their times and each object's playback deadline or none"; the deadline is an end
 

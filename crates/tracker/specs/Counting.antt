@@ -6,8 +6,8 @@ use lib.Dec.{eqb, leb, ltb}
 use lib.IntN.{ℤ, pos, negℤ}
 use Rattle.wire.specs.Bytes.{pick}
 use Rattle.wire.specs.Numbers.{limit}
-use Rattle.tracker.specs.Record.{intervalOf, namedOf, wordAt, stateOf, timeOf, hasArrived}
-use Rattle.tracker.specs.Status.{firstPlace, firstTime, statusFrom}
+use Rattle.tracker.specs.Record.{intervalOf, namedOf, wordAt, timeOf, fateOf, hasArrived, firstPlace, firstTime}
+use Rattle.tracker.specs.Status.{statusFrom}
 use Rattle.tracker.specs.declared.Spread.{Spread}
 use Rattle.tracker.specs.declared.Counts.{Counts}
 use Rattle.tracker.specs.declared.Mean.{Mean}
@@ -39,7 +39,7 @@ lossEnd r time top =
 
 -- the status of an object by that end
 abbrev pub statusBy : ℕ → ℕ → ℕ → ℕ
-statusBy end word place = statusFrom (stateOf word) (ltb (place + 1) end)
+statusBy end word place = statusFrom (fateOf word) (ltb (place + 1) end)
 
 abbrev pub statusesBy : ℕ → List ℕ → ℕ → ℕ
 statusesBy end r place = statusBy end (wordAt r place) place

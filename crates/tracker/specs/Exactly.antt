@@ -10,7 +10,8 @@ use Rattle.wire.specs.Exactly.{OneOf}
 use Rattle.entries.specs.Profiles.{recordSize}
 use Rattle.entries.specs.declared.Profile.the-variants.{One}
 use Rattle.report.specs.Average.{storedOf}
-use Rattle.tracker.specs.Record.{mostObjects, firstOf, intervalOf, namedOf, wordAt, stateOf, received, consistent}
+use Rattle.tracker.specs.Known.{mostObjects}
+use Rattle.tracker.specs.Record.{firstOf, intervalOf, namedOf, wordAt, stateOf, received, consistent, known}
 use Rattle.tracker.specs.Calls.{openRefusal, openAfter, placeOf, arrivedRefusal, arrivedAfter, endedRefusal, endedAfter}
 use Rattle.tracker.specs.Report.{totalOf, averageAt, reportRefusal, reportBytes}
 
@@ -64,13 +65,13 @@ EndObeys object time = (object ≤ limit) × (time ≤ limit)
 -- ---- the report
 
 abbrev pub InRange : List ℕ → Type 0
-InRange r = storedOf (averageAt r) ≤ limit
+InRange r = storedOf (averageAt (known r)) ≤ limit
 
 pub record ReportRows (r : List ℕ) (time interval room refusal : ℕ) : Type 0 where
   pub one : refusal ≡ 1 ↔ (Consistent r → ⊥)
   pub five : refusal ≡ 5 ↔ (Consistent r × ((EndObeys time interval → ⊥) ⊎ (EndObeys time interval × (InRange r → ⊥))))
-  pub nine : refusal ≡ 9 ↔ (Consistent r × (EndObeys time interval × (InRange r × (room < recordSize One * totalOf r time))))
-  pub accepted : refusal ≡ 0 ↔ (Consistent r × (EndObeys time interval × (InRange r × (recordSize One * totalOf r time ≤ room))))
+  pub nine : refusal ≡ 9 ↔ (Consistent r × (EndObeys time interval × (InRange r × (room < recordSize One * totalOf (known r) time))))
+  pub accepted : refusal ≡ 0 ↔ (Consistent r × (EndObeys time interval × (InRange r × (recordSize One * totalOf (known r) time ≤ room))))
   pub others : OneOf refusal (0 ∷ 1 ∷ 5 ∷ 9 ∷ [])
 
 pub record Exactly : Type 0 where

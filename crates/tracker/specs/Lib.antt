@@ -1,3 +1,4 @@
+pub mod Known
 pub mod Record
 pub mod Calls
 pub mod Status

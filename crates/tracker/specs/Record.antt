@@ -7,10 +7,7 @@ use lib.Dec.{leb, eqb}
 use lib.ListN.{getD}
 use Rattle.wire.specs.Bytes.{pick}
 use Rattle.wire.specs.Numbers.{limit}
-
--- "a tracker for the 256 object numbers from a given first one"
-abbrev pub mostObjects : ℕ
-mostObjects = 256
+use Rattle.tracker.specs.Known.{mostObjects, Fate, unknown, ended, came, noneYet, firstCame, Known}
 
 -- the number of the first object
 abbrev pub firstOf : List ℕ → ℕ
@@ -52,6 +49,16 @@ received = 2
 abbrev pub late : ℕ
 late = 3
 
+-- what each state says, with the time
+abbrev pub fateIn : ℕ → ℕ → Fate
+fateIn zero time = unknown
+fateIn (suc zero) time = ended time
+fateIn (suc (suc zero)) time = came time false
+fateIn (suc (suc (suc state))) time = came time true
+
+abbrev pub fateOf : ℕ → Fate
+fateOf word = fateIn (stateOf word) (timeOf word)
+
 -- "An object that arrived" is received or late
 abbrev pub hasArrived : ℕ → Bool
 hasArrived word = leb received (stateOf word)
@@ -79,3 +86,19 @@ numbersObey first interval = bothObey (first + 255) interval
 
 unfoldable pub consistent : List ℕ → Bool
 consistent r = numbersObey (firstOf r) (intervalOf r) && firstNamed r
+
+-- ---- what the record knows
+
+abbrev pub firstPlace : List ℕ → ℕ
+firstPlace r = namedOf r - 1
+
+abbrev pub firstTime : List ℕ → ℕ
+firstTime r = timeOf (wordAt r (firstPlace r))
+
+abbrev pub known : List ℕ → Known
+known r = record {
+  first = firstOf r;
+  interval = intervalOf r;
+  arrival = pick (eqb (namedOf r) 0) noneYet (firstCame (firstPlace r) (firstTime r));
+  became = λ place. fateOf (wordAt r place);
+}

@@ -14,21 +14,24 @@ use Rattle.report.specs.Header.{each, emptyHeader}
 use Rattle.report.specs.Limits.{metricPlaces}
 use Rattle.report.specs.declared.Header.{Header}
 use Rattle.report.specs.declared.Report.{Report}
-use Rattle.tracker.specs.Record.{mostObjects, intervalOf, bothObey, consistent}
+use Rattle.tracker.specs.Known.{mostObjects, Known}
+use Rattle.tracker.specs.Record.{bothObey, consistent, known}
 use Rattle.tracker.specs.Status.{statusAt, noStatus, entriesFrom, howMany}
 use Rattle.tracker.specs.Average.{arrivalTimes, averageFrom}
 
+-- ---- from what is known of the objects
+
 -- how many objects have the status
-abbrev pub withStatus : List ℕ → ℕ → ℕ → ℕ
-withStatus r time status = howMany (λ place. eqb (statusAt r time place) status) mostObjects 0
+abbrev pub withStatus : Known → ℕ → ℕ → ℕ
+withStatus k time status = howMany (λ place. eqb (statusAt k time place) status) mostObjects 0
 
 -- "over all objects with a status"
-abbrev pub totalOf : List ℕ → ℕ → ℕ
-totalOf r time = howMany (λ place. ltb (statusAt r time place) noStatus) mostObjects 0
+abbrev pub totalOf : Known → ℕ → ℕ
+totalOf k time = howMany (λ place. ltb (statusAt k time place) noStatus) mostObjects 0
 
 -- "The average is over arrived objects, late ones included"
-abbrev pub averageAt : List ℕ → ℤ
-averageAt r = averageFrom (intervalOf r) (arrivalTimes r mostObjects 0)
+abbrev pub averageAt : Known → ℤ
+averageAt k = averageFrom (k .interval) (arrivalTimes (k .became) mostObjects 0)
 
 -- a header with no metrics, and an entry for each object that it counts
 abbrev pub headerOf : ℕ → ℕ → ℕ → ℕ → ℕ → ℕ → ℤ → Header
@@ -47,39 +50,42 @@ headerOf time interval total received late lost average = record {
 }
 
 -- the summary: lost are those not received and those received in part (003)
-unfoldable pub summaryOf : List ℕ → ℕ → ℕ → Header
-summaryOf r time interval =
-    headerOf time interval (totalOf r time) (withStatus r time 0) (withStatus r time 1) (withStatus r time 2 + withStatus r time 3) (averageAt r)
+unfoldable pub summaryOf : Known → ℕ → ℕ → Header
+summaryOf k time interval =
+    headerOf time interval (totalOf k time) (withStatus k time 0) (withStatus k time 1) (withStatus k time 2 + withStatus k time 3) (averageAt k)
 
 -- the entries, in the order of their objects
-abbrev pub entriesAt : List ℕ → ℕ → List ℕ
-entriesAt r time = entriesFrom (statusAt r time) r time mostObjects 0
+abbrev pub entriesAt : Known → ℕ → List ℕ
+entriesAt k time = entriesFrom (statusAt k time) k time mostObjects 0
 
 -- "when entries and summary are made, 5 for an average outside the signed range, then 9"
-abbrev pub averageFits : List ℕ → Bool
-averageFits r = leb (storedOf (averageAt r)) limit
+abbrev pub averageFits : Known → Bool
+averageFits k = leb (storedOf (averageAt k)) limit
 
-unfoldable pub reportRefusal : List ℕ → ℕ → ℕ → ℕ → ℕ
-reportRefusal r time interval room =
-    pick (consistent r)
-    (pick (bothObey time interval)
-    (pick (averageFits r)
-    (pick (leb (recordSize One * totalOf r time) room) 0 9)
+unfoldable pub madeRefusal : Known → ℕ → ℕ → ℕ → ℕ
+madeRefusal k time interval room =
+    pick (bothObey time interval)
+    (pick (averageFits k)
+    (pick (leb (recordSize One * totalOf k time) room) 0 9)
     5)
-    5)
-    1
+    5
 
 -- a refusal has the empty header and writes nothing
 abbrev pub reportedAs : ℕ → Header → Report
 reportedAs zero header = record { refusal = 0; header = header }
 reportedAs (suc n) header = record { refusal = suc n; header = emptyHeader }
 
-unfoldable pub reportAnswer : List ℕ → ℕ → ℕ → ℕ → Report
-reportAnswer r time interval room = reportedAs (reportRefusal r time interval room) (summaryOf r time interval)
-
 abbrev pub storedUnless : ℕ → List ℕ → List ℕ → List ℕ
 storedUnless zero entries xs = splice xs 0 entries
 storedUnless (suc n) entries xs = xs
 
+-- ---- from a record
+
+unfoldable pub reportRefusal : List ℕ → ℕ → ℕ → ℕ → ℕ
+reportRefusal r time interval room = pick (consistent r) (madeRefusal (known r) time interval room) 1
+
+unfoldable pub reportAnswer : List ℕ → ℕ → ℕ → ℕ → Report
+reportAnswer r time interval room = reportedAs (reportRefusal r time interval room) (summaryOf (known r) time interval)
+
 unfoldable pub reportBytes : List ℕ → ℕ → ℕ → List ℕ → List ℕ
-reportBytes r time interval xs = storedUnless (reportRefusal r time interval (length xs)) (entriesAt r time) xs
+reportBytes r time interval xs = storedUnless (reportRefusal r time interval (length xs)) (entriesAt (known r) time) xs

@@ -3,7 +3,7 @@ ghost use mathlib.Core.Path.{_≡_};
 ghost use Prim.Native.Nat.{_+_, _*_, _<_, _≤_};
 ghost use lib.ListN.{length};
 ghost use Rattle.wire.specs.Bytes.{splice};
-ghost use Rattle.tracker.specs.Record.{firstOf};
+ghost use Rattle.tracker.specs.Record.{firstOf, known};
 ghost use Rattle.tracker.specs.Status.{ageOf, entryBytes, entriesFrom};
 ghost use Rattle.tracker.specs.Counting.{statusesBy};
 use crate::AT_FIRST;
@@ -44,8 +44,8 @@ fn put_entry(buf: &mut [u8], at: usize, object: u64, status: u64, age: u64)
 
 // Writes the entries of all objects with a status, by the end of those lost; they fit.
 pub(crate) fn put_entries(buf: &mut [u8], tracker: &[u64; WORDS], time: u64, end: u64)
-    requires { ⌜ (firstOf (now tracker) < 4611686018427387904) × (length (entriesFrom (statusesBy end (now tracker)) (now tracker) time 256 0) ≤ length (now buf)) ⌝ }
-    ensures { λ r. ⌜ now (buf .exit) ≡ splice (now (buf .entry)) 0 (entriesFrom (statusesBy end (now (tracker .entry))) (now (tracker .entry)) time 256 0) ⌝ }
+    requires { ⌜ (firstOf (now tracker) < 4611686018427387904) × (length (entriesFrom (statusesBy end (now tracker)) (known (now tracker)) time 256 0) ≤ length (now buf)) ⌝ }
+    ensures { λ r. ⌜ now (buf .exit) ≡ splice (now (buf .entry)) 0 (entriesFrom (statusesBy end (now (tracker .entry))) (known (now (tracker .entry))) time 256 0) ⌝ }
 {
     let first = tracker[AT_FIRST];
     let mut at: usize = 0;

@@ -3,7 +3,8 @@
 use Prim.Native.Nat.{_-_}
 use mathlib.Core.Path.{sym, _∙_}
 use borrow.Author.Tests.{not-true, not-false, le-leb, lt-leb, lt-ltb, le-ltb}
-use Rattle.tracker.specs.Record.{mostObjects, firstOf}
+use Rattle.tracker.specs.Known.{mostObjects}
+use Rattle.tracker.specs.Record.{firstOf}
 use Rattle.tracker.specs.Calls.{objectRefusal}
 use borrow.Author.Needs.{needs}
 use Rattle.tracker.proofs.calls.object_refusal.Statement.{statement}

@@ -4,7 +4,7 @@ use borrow.Author.Needs.{needs}
 use Prim.Native.Nat.{_-_, _≤_, zero-le}
 use mathlib.Core.Path.{_≡_, refl, sym, _∙_}
 use native.Mathlib.Omega.{arith}
-use Rattle.tracker.specs.Record.{mostObjects}
+use Rattle.tracker.specs.Known.{mostObjects}
 use Rattle.tracker.specs.Counting.{noCounts, countsFrom}
 use Rattle.tracker.proofs.Walks.{Within, counts-next, counts-done, counted-within}
 use Rattle.tracker.proofs.counting.counts_of.Statement.{statement}

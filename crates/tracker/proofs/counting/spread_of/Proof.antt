@@ -5,7 +5,8 @@ use Prim.Native.Nat.{_-_, _≤_, zero-le}
 use mathlib.Core.Path.{_≡_, refl, sym, _∙_}
 use native.Mathlib.Omega.{arith}
 use Rattle.wire.specs.Numbers.{limit}
-use Rattle.tracker.specs.Record.{mostObjects, wordAt}
+use Rattle.tracker.specs.Known.{mostObjects}
+use Rattle.tracker.specs.Record.{wordAt}
 use Rattle.tracker.specs.Counting.{noArrival, spreadFrom}
 use Rattle.tracker.proofs.Walks.{spread-next, spread-done, widened-small}
 use Rattle.tracker.proofs.counting.spread_of.Statement.{statement}

@@ -1,7 +1,8 @@
 -- `tracker::record::first_named` meets its contract: its tests are the definition's.
 -- Assumes nothing.
 use borrow.Author.Tests.{eq-eqb, ne-eqb, le-leb, lt-leb}
-use Rattle.tracker.specs.Record.{mostObjects, namedOf, firstNamed}
+use Rattle.tracker.specs.Known.{mostObjects}
+use Rattle.tracker.specs.Record.{namedOf, firstNamed}
 use borrow.Author.Needs.{needs}
 use Rattle.tracker.proofs.record.first_named.Statement.{statement}
 use Rattle.tracker.proofs.record.first_named.Tie as tie

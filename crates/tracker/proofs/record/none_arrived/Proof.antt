@@ -4,7 +4,8 @@ use borrow.Author.Needs.{needs}
 use Prim.Native.Nat.{_-_, _≤_, zero-le}
 use mathlib.Core.Path.{_≡_, refl, sym, _∙_}
 use native.Mathlib.Omega.{arith}
-use Rattle.tracker.specs.Record.{mostObjects, noneArrived}
+use Rattle.tracker.specs.Known.{mostObjects}
+use Rattle.tracker.specs.Record.{noneArrived}
 use Rattle.tracker.proofs.Arrivals.{none-stops, none-next, none-done}
 use Rattle.tracker.proofs.record.none_arrived.Statement.{statement}
 use Rattle.tracker.proofs.record.none_arrived.Tie as tie

@@ -14,7 +14,7 @@ use mir.ValLaws.{toZ-ofZ}
 use Rattle.wire.specs.Numbers.{limit}
 use Rattle.report.specs.Average.{storedOf}
 use Rattle.report.specs.declared.Header.{Header}
-use Rattle.tracker.specs.Record.{firstOf, intervalOf, bothObey, consistent}
+use Rattle.tracker.specs.Record.{firstOf, intervalOf, bothObey, consistent, known}
 use Rattle.tracker.specs.Report.{totalOf, averageFits}
 use Rattle.tracker.proofs.Judging.{both-small}
 use Rattle.tracker.proofs.Losses.{numbers-sound, named-within}
@@ -36,10 +36,10 @@ worked c =
     (c .before .before .before .before .before .before .before .spread-of .ensures .0) (c .before .before .before .before .before .before .loss-end .ensures) (c .before .before .before .before .before .counts-of .ensures) (c .before .before .before .minus .ensures) (c .before .before .minus2 .ensures) (c .mean .ensures)
 
 -- the average is in its range
-ranged : (c : tie.Else3) → averageFits (now (c .before .before .before .before .before .before .before .before .before .before .before .before .before .before .before .args .tracker)) ≡ true
+ranged : (c : tie.Else3) → averageFits (known (now (c .before .before .before .before .before .before .before .before .before .before .before .before .before .before .before .args .tracker))) ≡ true
 ranged c = ap (λ (z : ℤ). leb (storedOf z) limit) (sym (worked (c .before .before) .average)) ∙ sym (c .before .in-range .ensures) ∙ not-false _ (c .if3 .left)
 
-total : (c : tie.After-header) → c .header .result .total ≡ totalOf (now (c .before .before .before .before .before .before .before .before .before .before .before .before .before .before .before .before .before .args .tracker)) (c .before .before .before .before .before .before .before .before .before .before .before .before .before .before .before .before .before .args .time)
+total : (c : tie.After-header) → c .header .result .total ≡ totalOf (known (now (c .before .before .before .before .before .before .before .before .before .before .before .before .before .before .before .before .before .args .tracker))) (c .before .before .before .before .before .before .before .before .before .before .before .before .before .before .before .before .before .args .time)
 total c = ap (λ (h : Header). h .total) (c .header .ensures) ∙ total-is (worked (c .before .before .before .before))
 
 consistent-requires : tie.Need-consistent-requires
