@@ -66,6 +66,17 @@ def must_fail():
     return sorted(glob.glob("crates/*/must-fail/*.edit"))
 
 
+def misplaced(edit):
+    """What is at fault where a text that is replaced does not stand once; each wrong answer is tried alone."""
+    for answer in answers(edit) if os.path.isfile(edit) else []:
+        texts = {}
+        for path, old, new in answer.pairs:
+            text = texts.get(path) or (read(path) if os.path.isfile(path) else "")
+            if text.count(old) != 1:
+                yield f"{edit}: the old text of {answer.name} stands {text.count(old)} times in {path}"
+            texts[path] = text.replace(old, new)
+
+
 def example_fault(place):
     """Why an example does not stand for a wrong answer, or None: it must be there, and a row of the register must name it."""
     path, _, name = place.partition("#")
