@@ -8,12 +8,13 @@ import time
 from wrong.build import BASE, PAPER, PROGRAMS, WRITTEN, Stuck, call, compile_crate, link_program, touched, write
 from wrong.edits import read
 
-# How long each comparison of the library as it is took: an edit has some times as long.
+# How long each comparison of the library as it is took, in how many rounds: an edit has some times as long.
 TOOK = {}
 
 
-def seconds_for(name):
-    return 5 * TOOK[name] + 30 if name in TOOK else 3600
+def seconds_for(name, rounds):
+    seconds, gone_through = TOOK.get(name, (0, 0))
+    return 5 * seconds * max(1, rounds / gone_through) + 30 if gone_through else 3600
 
 
 def cut_short(text, most):
@@ -50,15 +51,15 @@ def in_a_line(said):
     return f"{cut_short(call_made, 120)}: {place_of(papers, start)}{value_at(papers, start)} by the papers, {value_at(other, start)} here"
 
 
-def run_compare(name, words, folder, libraries):
+def run_compare(name, words, rounds, folder, libraries):
     """The first difference that one comparison finds, or None."""
     began = time.time()
     try:
-        status, said = call([PAPER, *words], seconds_for(name), folder, libraries)
+        status, said = call([PAPER, *words, str(rounds)], seconds_for(name, rounds), folder, libraries)
     except Stuck as stuck:
         return f"{name}: {stuck}"
     if folder == BASE:
-        TOOK[name] = time.time() - began
+        TOOK[name] = time.time() - began, rounds
     write(f"{folder}/{name}.said", said)
     if status < 0:
         return f"{name}: the program was ended by {signal.Signals(-status).name}"
@@ -68,12 +69,12 @@ def run_compare(name, words, folder, libraries):
 
 def compare_archive(folder, rounds):
     """The first call of the library in a folder whose answer is another one than the papers', or None."""
-    return run_compare("archive", ["compare-archive", str(rounds)], folder, folder)
+    return run_compare("archive", ["compare-archive"], rounds, folder, folder)
 
 
 def compare_program(crate, folder, rounds):
     """The first line of a program in a folder that is another one than the papers', or None."""
-    return run_compare(crate, [f"compare-{crate}", f"{folder}/{crate}", str(min(rounds, 1700))], folder, BASE)
+    return run_compare(crate, [f"compare-{crate}", f"{folder}/{crate}"], min(rounds, 1700), folder, BASE)
 
 
 def compare_written(sources, folder):

@@ -4,6 +4,7 @@
 mod calls;
 mod direct;
 mod show;
+mod types;
 
 use calls::Reader;
 use ecn::Mark;
@@ -110,25 +111,6 @@ fn immediate_read() {
     calls::cuts(Reader::Immediate, b"\x40\x1f");
     calls::read_immediate(b"\x1f");
     calls::read_immediate(b"\x1f\x02");
-}
-
-// The same bytes to every reader of a frame.
-fn every_reader(s: &[u8]) {
-    calls::read_frequency(s);
-    calls::read_immediate(s);
-    calls::read_ack5(s);
-}
-
-fn types() {
-    show::text(b"\nFrame types: each of these to every reader\n");
-    every_reader(b"");
-    every_reader(b"\x40");
-    every_reader(b"\x40\x1f");
-    every_reader(b"\x40\x02");
-    every_reader(b"\x80\x00\x00\xaf");
-    every_reader(b"\xaf");
-    every_reader(b"\x03");
-    every_reader(b"\x40\x03");
 }
 
 fn ack_read() {
@@ -283,7 +265,7 @@ fn main() {
     fixed_written();
     frequency_read();
     immediate_read();
-    types();
+    types::to_every_reader();
     ack_read();
     ack_below_zero();
     ack_before_room();
