@@ -2,7 +2,9 @@
 // Carries "the rest and RFC 9000's published vectors run in a test program" of document 01, "Settled examples".
 // What it must write stands in the file stdout, which was written from the papers and not from this program.
 mod calls;
+mod direct;
 mod show;
+mod types;
 
 use calls::Reader;
 use ecn::Mark;
@@ -111,25 +113,6 @@ fn immediate_read() {
     calls::cuts(Reader::Immediate, b"\x40\x1f");
     calls::read_immediate(b"\x1f");
     calls::read_immediate(b"\x1f\x02");
-}
-
-// The same bytes to every reader of a frame.
-fn every_reader(s: &[u8]) {
-    calls::read_frequency(s);
-    calls::read_immediate(s);
-    calls::read_ack5(s);
-}
-
-fn types() {
-    show::text(b"\nFrame types: each of these to every reader\n");
-    every_reader(b"");
-    every_reader(b"\x40");
-    every_reader(b"\x40\x1f");
-    every_reader(b"\x40\x02");
-    every_reader(b"\x80\x00\x00\xaf");
-    every_reader(b"\xaf");
-    every_reader(b"\x03");
-    every_reader(b"\x40\x03");
 }
 
 fn ack_read() {
@@ -285,13 +268,14 @@ fn main() {
     fixed_written();
     frequency_read();
     immediate_read();
-    types();
+    types::to_every_reader();
     ack_read();
     ack_below_zero();
     ack_before_room();
     calls::ack_checked();
     ack_counts();
     frames_written();
+    direct::at_the_ends();
     thresholds_heard();
     congestion();
     confirmations();
