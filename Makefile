@@ -1,5 +1,5 @@
 # The two commands of README.md are `make test` and `make run`; the others show the library from outside.
-.PHONY: help test emulated hearing live run picture week archive program command build host relay rust install uninstall installed dist deb packaged release paper compare bench
+.PHONY: help test emulated hearing live run picture week archive program command build host relay rust install uninstall installed dist deb packaged release paper compare wrong bench
 
 # The archive and the programs are x86-64 code. On another processor what is linked with them is compiled for it, and emulated.
 ifeq ($(shell uname -m),x86_64)
@@ -60,6 +60,7 @@ help:
 	@echo 'make packaged  try both in an empty folder without the kit: C by pkg-config and CMake, C++, Rust by cargo, Python'
 	@echo 'make installed  try that under target/: two examples are built from there as a host does, and nothing is left'
 	@echo 'make compare  compare the programs and the archive with a second implementation that was written from the papers'
+	@echo 'make wrong    run each wrong answer that the gate tries: it must answer something else than the second implementation, and each harmless change the same'
 	@echo 'make bench    compare the archive with plain C and time both, and the replay program beside the second implementation; no time is judged'
 
 test:
@@ -297,6 +298,11 @@ compare: paper
 	@echo 'The relay of two thousand rooms, by the second implementation'
 	@$(PAPER) relay | cmp - examples/relay.expected
 	@echo 'relay: examples/relay.expected is what it prints'
+
+# The crates are built without a proof here, each time with one edit. On another processor the compilers are those for x86-64.
+wrong: emulated
+	@CC='$(CC)' RUST='$(RUST)' tools/run-wrong $(WRONG)
+	@CC='$(CC)' RUST='$(RUST)' tools/test-wrong
 
 bench: paper
 	@mkdir -p target/bench

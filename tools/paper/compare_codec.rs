@@ -6,7 +6,7 @@ use crate::made_up::{argument, up_to};
 use crate::made_up_bytes::{append_in_form, append_in_some_form, damaged};
 use crate::numbers::{put, read, width, LARGEST};
 use crate::random::Random;
-use crate::refusals::ACCEPTED;
+use crate::refusals::{ACCEPTED, OTHER_TYPE};
 use crate::tally::{Call, Lent, Tally};
 
 pub fn round(random: &mut Random, tally: &mut Tally) -> Result<(), String> {
@@ -25,7 +25,8 @@ pub fn round(random: &mut Random, tally: &mut Tally) -> Result<(), String> {
 }
 
 fn frequency_frame(random: &mut Random) -> Vec<u8> {
-    let mut bytes = vec![0x40, 0xaf];
+    let mut bytes = Vec::new();
+    append_in_form(&mut bytes, 0xaf, if random.chance(150) { random.one_of(&[4, 8]) } else { 2 });
     for _ in 0..4 {
         let value = up_to(random, LARGEST);
         append_in_some_form(random, &mut bytes, value);
@@ -165,6 +166,8 @@ fn compare_read_frequency(tally: &mut Tally, bytes: &[u8]) -> Result<(), String>
     let shortest = [papers.sequence, papers.threshold, papers.delay, papers.reordering].map(width).iter().sum::<usize>();
     let longer = papers.result == ACCEPTED && papers.used as usize > 2 + shortest;
     tally.note("an accepted frame with a longer field", longer);
+    let longer_type = bytes.starts_with(&[0x80, 0, 0, 0xaf]) || bytes.starts_with(&[0xc0, 0, 0, 0, 0, 0, 0, 0xaf]);
+    tally.note("3 for ACK_FREQUENCY's type in a longer form", longer_type && papers.result == OTHER_TYPE);
     let archive = unsafe { lumbixet_read_frequency(bytes.as_ptr(), bytes.len()) };
     tally.compare(Call { name: "read_frequency", result: papers.result, given: &bytes }, papers, archive)
 }

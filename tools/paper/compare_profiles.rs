@@ -111,6 +111,7 @@ fn others(random: &mut Random, tally: &mut Tally) -> Result<(), String> {
     let any = another(random);
     let mut header = header(random, Profile::Two);
     break_header(random, profile_of(TWO), &mut header);
+    let too_late = Header { timestamp: LARGEST + 1, ..header };
     let broken = write_report(TWO, &mut [0; AMPLE], &header, &[], 200).err();
     for profile in [0, 3, u64::MAX, any] {
         compare_readers(random, tally, profile, &[])?;
@@ -121,6 +122,8 @@ fn others(random: &mut Random, tally: &mut Tally) -> Result<(), String> {
         tally.note("18 for profile 2^64 - 1", profile == u64::MAX && first);
         tally.note("18 before 5", first && broken == Some(TOO_LARGE));
         tally.note("18 before 2", first && read_report(TWO, &[]) == Err(ENDS));
+        let (written, _) = compare_written(random, tally, profile, (&too_late, &[]), AMPLE, 200)?;
+        tally.note("18 before the 5 of the timestamp", written.result == OTHER_PROFILE);
     }
     Ok(())
 }

@@ -131,6 +131,9 @@ fn compare_packet(
     compare_packet_lent(tally, given, (number, time, eliciting, ecn), papers)?;
     tally.note_cause(&archive);
     note_mark(tally, record, &papers, eliciting, ecn);
+    let counted = papers.result == ACCEPTED && eliciting;
+    tally.note("N becomes 2^62", counted && record.pending == LARGEST && papers.next.pending_count == LARGEST + 1);
+    tally.note("N stays at 2^62", counted && record.pending == LARGEST + 1 && papers.next.pending_count == LARGEST + 1);
     let below = papers.result == BELOW_WINDOW;
     tally.note("7 though it was received and lies within 1,024 of L", below && record.received.contains(&number));
     let by_window = below && record.confirmed < record.window_floor() && number < record.window_floor();

@@ -6,6 +6,8 @@ use crate::traces::{input, Input};
 use std::collections::BTreeMap;
 use std::fs;
 use std::io::{Read, Write};
+use std::os::unix::io::OwnedFd;
+use std::os::unix::net::UnixDatagram;
 use std::process::{Command, Stdio};
 
 /// Where the input of a difference is kept.
@@ -30,7 +32,9 @@ pub fn run(program: &str, count: usize) -> Result<(), String> {
         let made = input(&mut random, index);
         let mut expected = Vec::new();
         replay::run(&made.bytes[..], &mut expected).map_err(|error| error.to_string())?;
-        let printed = lines_of(program, &made.bytes)?;
+        // every fifth input comes in parts that end inside records
+        let comes = if index % 5 == 4 { Comes::InParts([25, 100, 1000, 4099][index / 5 % 4]) } else { Comes::AsPiped };
+        let printed = lines_as(program, &made.bytes, comes)?;
         if printed != expected {
             return Err(difference(index, &made, &expected, &printed));
         }
@@ -43,18 +47,38 @@ pub fn run(program: &str, count: usize) -> Result<(), String> {
     seen.judge()
 }
 
+/// How an input comes to the program: as a pipe brings it, or in parts of so many bytes at most, each of which is one read.
+#[derive(Clone, Copy)]
+enum Comes {
+    AsPiped,
+    InParts(usize),
+}
+
 /// What the program prints for an input, or why it cannot be said. Words behind the program's name are its arguments.
 pub fn lines_of(program: &str, bytes: &[u8]) -> Result<Vec<u8>, String> {
+    lines_as(program, bytes, Comes::AsPiped)
+}
+
+fn lines_as(program: &str, bytes: &[u8], comes: Comes) -> Result<Vec<u8>, String> {
     let failed = |error: std::io::Error| format!("{program}: {error}");
     let mut words = program.split(' ');
     let mut command = Command::new(words.next().unwrap_or_default());
-    let mut child = command.args(words).stdin(Stdio::piped()).stdout(Stdio::piped()).spawn().map_err(failed)?;
-    let mut stdin = child.stdin.take().expect("stdin is piped");
+    let (ours, theirs) = UnixDatagram::pair().map_err(failed)?;
+    let stdin = if let Comes::InParts(_) = comes { Stdio::from(OwnedFd::from(theirs)) } else { Stdio::piped() };
+    let mut child = command.args(words).stdin(stdin).stdout(Stdio::piped()).spawn().map_err(failed)?;
+    // the command keeps its own end of the parts open until it is dropped
+    drop(command);
+    let pipe = child.stdin.take();
     let mut stdout = child.stdout.take().expect("stdout is piped");
     let mut printed = Vec::new();
     std::thread::scope(|scope| {
         // a program that ends before it has read everything shows in its lines
-        scope.spawn(move || stdin.write_all(bytes).is_ok());
+        scope.spawn(move || match (pipe, comes) {
+            (Some(mut pipe), _) => pipe.write_all(bytes).is_ok(),
+            // an empty part is the end
+            (None, Comes::InParts(size)) => bytes.chunks(size).chain([&[][..]]).all(|part| ours.send(part).is_ok()),
+            (None, Comes::AsPiped) => false,
+        });
         stdout.read_to_end(&mut printed)
     })
     .map_err(failed)?;

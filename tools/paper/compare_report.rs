@@ -98,7 +98,7 @@ pub fn compare_readers(random: &mut Random, tally: &mut Tally, profile: u64, byt
     let name = named(profile, ["read_report 1", "read_report 2", "read_report else"]);
     tally.compare(Call { name, result: papers.result, given: &(profile, bytes) }, papers, archive)?;
     if papers.result == ACCEPTED {
-        compare_written_again(profile, bytes, &papers.header)?;
+        compare_written_again(tally, profile, bytes, &papers.header)?;
     }
     compare_newest(tally, profile, bytes)?;
     compare_cut(random, tally, profile, bytes)?;
@@ -114,7 +114,7 @@ pub fn compare_readers(random: &mut Random, tally: &mut Tally, profile: u64, byt
 
 /// "From then on equal reports have equal bytes" (document 02, No. 5): an accepted report is what the writer makes of its header
 /// and its entries, in a room that has not a byte more.
-fn compare_written_again(profile: u64, bytes: &[u8], header: &crate::archive::Header) -> Result<(), String> {
+fn compare_written_again(tally: &mut Tally, profile: u64, bytes: &[u8], header: &crate::archive::Header) -> Result<(), String> {
     let (start, length) = find_entries(profile, bytes);
     let mut again = vec![0; bytes.len()];
     let entries = &bytes[start..start + length];
@@ -123,9 +123,9 @@ fn compare_written_again(profile: u64, bytes: &[u8], header: &crate::archive::He
     let papers = read_report(profile, bytes)
         .and_then(|(header, _)| write_report(profile, &mut vec![0; bytes.len()], &header, entries, most));
     let whole = (bytes.len(), length / profile_of(profile).record());
-    if (written.result, written.next as usize, written.kept as usize) != (ACCEPTED, whole.0, whole.1) || again != bytes {
-        return Err(format!("an accepted report is not written again\n  read    {bytes:?}\n  written {again:?}, {written:?}"));
-    }
+    let name = named(profile, ["write_report 1", "write_report 2", "write_report else"]);
+    let wanted = Written { result: ACCEPTED, next: whole.0 as u64, kept: whole.1 as u64 };
+    tally.compare(Call { name, result: ACCEPTED, given: &(profile, header, entries) }, (wanted, bytes), (written, &again[..]))?;
     if papers != Ok(whole) {
         return Err(format!("by the papers an accepted report is not written again: {papers:?}\n  read {bytes:?}"));
     }

@@ -24,7 +24,7 @@ pub fn made_up(random: &mut Random, tally: &mut Tally) -> Result<(), String> {
     if random.chance(60) {
         damaged(random, &frame, |random, bytes| compare_heard(random, tally, &given, bytes).map(|_| ()))?;
     }
-    if random.chance(30) {
+    if random.chance(150) {
         heard_at_every_room(random, tally, &given, &frame)?;
     }
     Ok(())

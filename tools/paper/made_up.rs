@@ -51,7 +51,7 @@ pub fn consistent(random: &mut Random) -> Record {
         acknowledged,
         highest,
         pending_largest,
-        pending: pending_largest.map_or(0, |_| 1 + up_to(random, LARGEST)),
+        pending: pending_largest.map_or(0, |_| waiting(random)),
         pending_first: up_to(random, LARGEST),
         ce: if random.chance(500) { 0 } else { random.any() },
         threshold: up_to(random, LARGEST),
@@ -63,6 +63,14 @@ pub fn consistent(random: &mut Random) -> Record {
         cause: if largest.is_none() || random.chance(700) { 0 } else { random.below(6) },
         totals: totals(random),
     }
+}
+
+/// How many packets wait: any number, and now and then the last before 2^62, where the count stays, or that.
+fn waiting(random: &mut Random) -> u64 {
+    if random.chance(30) {
+        return LARGEST + random.below(2);
+    }
+    1 + up_to(random, LARGEST)
 }
 
 /// Nothing is asked of the four but that each obeys 5: also of a record that received nothing.

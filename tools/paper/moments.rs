@@ -57,7 +57,7 @@ pub const CAN_GIVE: [(&str, &[u64]); 52] = [
 ];
 
 /// What must have happened in accepted and refused calls beyond their results.
-pub const MOMENTS: [&str; 207] = [
+pub const MOMENTS: &[&str] = &[
     "1 for nothing but a floor above L",
     "1 for nothing but a floor while nothing was received",
     "7 though it was received and lies within 1,024 of L",
@@ -74,6 +74,8 @@ pub const MOMENTS: [&str; 207] = [
     "1 for nothing but a total of unmarked ones above its limit",
     "a total that reaches 2^62 - 1",
     "a total that stays at 2^62 - 1",
+    "N becomes 2^62",
+    "N stays at 2^62",
     "a mark counted of a packet that is not ack-eliciting",
     "a mark with other bits above it",
     "ECT(0) counted",
@@ -97,6 +99,7 @@ pub const MOMENTS: [&str; 207] = [
     "03 cut at every byte",
     "2 inside the counts of 03, before 9",
     "3 for 03 in a longer form",
+    "3 for ACK_FREQUENCY's type in a longer form",
     "15 for one longer form alone",
     "15 for the first of two longer forms",
     "15 at lost, before 11",
@@ -149,6 +152,7 @@ pub const MOMENTS: [&str; 207] = [
     "18 for profile 3",
     "18 for profile 2^64 - 1",
     "18 before 5",
+    "18 before the 5 of the timestamp",
     "18 before 2",
     "13 before 12",
     "13 before 12 of a record that is not read",
@@ -265,4 +269,6 @@ pub const MOMENTS: [&str; 207] = [
     "a piece that ends in a report",
     "a piece that ends while a long report is skipped",
     "a page of 2 alone",
+    "a page that just fits",
+    "9 for a room that lacks one byte",
 ];

@@ -20,6 +20,8 @@ LISTS = {
     "crates/tracked/specs/Told.antt",
     "crates/uncut/specs/Cutting.antt",
     "crates/pieces/specs/Handing.antt",
+    "crates/pieces/specs/Later.antt",
+    "crates/pieces/specs/Sessions.antt",
     "crates/play/specs/Reads.antt",
     "crates/page/specs/Pieces.antt",
     "crates/totals/specs/Sums.antt",
@@ -158,7 +160,7 @@ def touched(row):
     for function in functions:
         led |= sources.led_to(function[0], sources.functions()[function])
         named |= sources.contract(function)[0]
-    named = named.union(*[sources.edits.says(*one) for one in named])
+    named = named.union(*[sources.touches.says(*one) for one in named])
     return set().union(*[sources.below(function) for function in functions]), named, led
 
 

@@ -1,31 +1,21 @@
 """What the sources hold: where each name is defined, what a theorem states, which functions are public and what they call.
 
-What a wrong answer changes, and which definitions lead to which, is what tools/check-edits knows: its code is used here.
+What a wrong answer changes, and which definitions lead to which, is what tools/wrong/touches.py knows.
 """
 
 import functools
 import glob
-import importlib.machinery
-import importlib.util
 import os
 import re
 import sys
 
 sys.dont_write_bytecode = True
 ROOT = os.path.dirname(os.path.dirname(os.path.dirname(os.path.abspath(__file__))))
-
-
-def _check_edits():
-    path = os.path.join(ROOT, "tools", "check-edits")
-    spec = importlib.util.spec_from_loader("check_edits", importlib.machinery.SourceFileLoader("check_edits", path))
-    module = importlib.util.module_from_spec(spec)
-    spec.loader.exec_module(module)
-    return module
-
-
-edits = _check_edits()
 os.chdir(ROOT)
-read = edits.read
+sys.path.insert(0, os.path.join(ROOT, "tools"))
+from wrong import touches  # noqa: E402
+from wrong.edits import read, together  # noqa: E402
+
 MARKS = r"(?:(?:pub|abbrev|unfoldable|axiom) )*"
 
 
@@ -47,7 +37,7 @@ def defined(path):
                 keep(name[1] or name[2], number, depth)
         elif path.endswith(".edit"):
             name = re.match(r"# (\w+): ", line)
-            if not edits.together(path):
+            if not together(path):
                 keep(os.path.basename(path)[:-5], number, 0)
             elif name and name[1] != "shown":
                 keep(name[1], number, 0)
@@ -94,7 +84,7 @@ def functions():
     """All functions of the crates: (file, name) with the name as it is written in the file."""
     found = {}
     for path in sorted(glob.glob("crates/*/src/*.rt")):
-        for _, name in edits.functions(path, read(path)):
+        for _, name in touches.functions(path, read(path)):
             if name:
                 found[path, name] = name.split("::")[-1] if name.split("::")[0] == os.path.basename(path)[:-3] else name
     return found
@@ -116,7 +106,7 @@ def public():
 def contract(function):
     """The definitions that a function's contract mentions, as file and name, and the calls in its body."""
     path, name = function
-    return edits.contract_and_calls(path, read(path), name)
+    return touches.contract_and_calls(path, read(path), name)
 
 
 @functools.lru_cache(maxsize=None)
@@ -184,8 +174,8 @@ def wrong_answers():
     found = {}
     for edit in sorted(glob.glob("crates/*/must-fail/*.edit")):
         crate = edit.split("/must-fail/")[0]
-        changes = edits.changed(edit)
-        for name, _ in edits.answers(edit):
+        changes = touches.changed(edit)
+        for name, _ in touches.answers(edit):
             own = {what for what in changes.get(name, set()) if isinstance(what, tuple)}
             own |= {(path, what) for path, what in functions() if path.startswith(f"{crate}/src/") and what in changes.get(name, set())}
             found[edit, name] = own
@@ -200,7 +190,7 @@ def enclosing(path, name):
     """The definition of a file in which a name stands: itself, or the record or module that has it as a part."""
     line = defined(path).get(name, 0)
     start = sum(len(text) + 1 for text in read(path).splitlines()[: line - 1])
-    heads = [head for head in re.finditer(edits.HEAD, read(path), re.M) if head.start() <= start + 1]
+    heads = [head for head in re.finditer(touches.HEAD, read(path), re.M) if head.start() <= start + 1]
     return heads[-1][1] if heads else name
 
 
@@ -211,6 +201,6 @@ def led_to(path, name):
     if path.endswith(".rt"):
         function = next((one for one, short in functions().items() if one[0] == path and short == name), None)
     if function:
-        return frozenset(edits.reached(contract(function)[0]))
-    start = {(path, enclosing(path, name))} if "/specs/" in path else edits.says(path, name)
-    return frozenset(edits.reached(start))
+        return frozenset(touches.reached(contract(function)[0]))
+    start = {(path, enclosing(path, name))} if "/specs/" in path else touches.says(path, name)
+    return frozenset(touches.reached(start))

@@ -24,6 +24,7 @@ pub mod Tallied
 pub mod Charged
 pub mod Bound
 pub mod Reached
+pub mod Readings
 pub mod NoLoss
 pub mod NoLossCases
 pub mod Settled

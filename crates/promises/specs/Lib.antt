@@ -13,6 +13,7 @@ pub mod Passed
 pub mod Counted
 pub mod Bound
 pub mod Reached
+pub mod Readings
 pub mod NoLoss
 pub mod NoLossCases
 pub mod Settled

@@ -187,6 +187,7 @@ impl Receiver {
     }
 
     // An ACK_FREQUENCY frame arrives: its sequence, T, requested delay and R.
+    // The record with its values is at hand before it is judged; a refused or stale frame hands back the one that came.
     pub fn threshold(self, sequence: u64, threshold: u64, delay: Micros, reordering: u64) -> Heard
         ensures { λ r. ⌜ r ≡ thresholdCall self sequence threshold delay reordering ⌝ }
     {
@@ -195,14 +196,6 @@ impl Receiver {
         }
         if !numbers::all_small(sequence, threshold, delay.0, reordering) {
             return Heard::refused(5, self);
-        }
-        let limits = self.limits;
-        if !limits.allow(delay) {
-            return Heard::refused(4, self);
-        }
-        let before = self.agreed;
-        if sequence < before.sequence {
-            return Heard::stale(self);
         }
         let end = sequence + 1;
         let agreed = Agreed {
@@ -213,6 +206,14 @@ impl Receiver {
         };
         let mut next = self;
         next.agreed = agreed;
+        let limits = self.limits;
+        if !limits.allow(delay) {
+            return Heard::refused(4, self);
+        }
+        let before = self.agreed;
+        if sequence < before.sequence {
+            return Heard::stale(self);
+        }
         Heard {
             verdict: Verdict::Accepted,
             next,

@@ -2,7 +2,9 @@
 // Carries "the rest and RFC 9000's published vectors run in a test program" of document 01, "Settled examples".
 // What it must write stands in the file stdout, which was written from the papers and not from this program.
 mod calls;
+mod direct;
 mod show;
+mod types;
 
 use calls::Reader;
 use ecn::Mark;
@@ -75,6 +77,8 @@ fn numbers_written() {
     calls::put_two_in(37, 15293, 4);
     calls::put_two_in(37, 4611686018427387904, 9);
     calls::put_two_in(37, 4611686018427387904, 0);
+    calls::length_of_two(37, 15293);
+    calls::length_of_two(37, 4611686018427387904);
 }
 
 fn fixed_read() {
@@ -111,25 +115,6 @@ fn immediate_read() {
     calls::read_immediate(b"\x1f\x02");
 }
 
-// The same bytes to every reader of a frame.
-fn every_reader(s: &[u8]) {
-    calls::read_frequency(s);
-    calls::read_immediate(s);
-    calls::read_ack5(s);
-}
-
-fn types() {
-    show::text(b"\nFrame types: each of these to every reader\n");
-    every_reader(b"");
-    every_reader(b"\x40");
-    every_reader(b"\x40\x1f");
-    every_reader(b"\x40\x02");
-    every_reader(b"\x80\x00\x00\xaf");
-    every_reader(b"\xaf");
-    every_reader(b"\x03");
-    every_reader(b"\x40\x03");
-}
-
 fn ack_read() {
     show::text(b"\nP6's bytes: ACK is read, cut at every byte\n");
     calls::cuts(Reader::Ack, b"\x02\x05\x00\x01\x02\x00\x01");
@@ -158,6 +143,7 @@ fn ack_before_room() {
     show::text(b"\nThe whole frame is checked before the room: a range count of 2^62 - 1\n");
     calls::read_ack0(b"\x02\x05\x00\x01\x02");
     calls::read_ack0(b"\x02\x05\x00\x01\x04\x02");
+    calls::read_ack0(b"\x02\x05\x00\x00\x06");
     calls::read_ack0(b"\x02\x05\x00\xff\xff\xff\xff\xff\xff\xff\xff\x05");
     calls::read_ack0(b"\x02\x05\x00\xff\xff\xff\xff\xff\xff\xff\xff\x05\x00");
 }
@@ -282,12 +268,14 @@ fn main() {
     fixed_written();
     frequency_read();
     immediate_read();
-    types();
+    types::to_every_reader();
     ack_read();
     ack_below_zero();
     ack_before_room();
+    calls::ack_checked();
     ack_counts();
     frames_written();
+    direct::at_the_ends();
     thresholds_heard();
     congestion();
     confirmations();

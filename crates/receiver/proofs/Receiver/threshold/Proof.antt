@@ -34,12 +34,6 @@ returns-2 : tie.Need-returns-2
 unfolding thresholdCall thresholdVerdict
 returns-2 c = c .refused2 .ensures ∙ rw (held (c .before .before .before .before .consistent .ensures) (c .before .before .before .if1 .left), failed (c .before .before .all-small .ensures) (c .before .if2 .taken))
 
-allow-requires : tie.Need-allow-requires
-allow-requires c κs = search needs
-
-refused-requires-3 : tie.Need-refused-requires-3
-refused-requires-3 c κs = search needs
-
 -- the record is consistent and the four numbers obey 5
 abbrev entry : tie.Else2 → tie.Start
 entry c = c .before .before .before .before
@@ -47,6 +41,17 @@ entry c = c .before .before .before .before
 obeys : (c : tie.Else2) → let a = entry c .args in
     (consistent (a .self) ≡ true) × ((small (a .sequence) && (small (a .threshold) && (small (a .delay .0) && small (a .reordering)))) ≡ true)
 obeys c = (held (c .before .before .before .consistent .ensures) (c .before .before .if1 .left), held (c .before .all-small .ensures) (c .if2 .left))
+
+add-end : tie.Need-add-end
+add-end c =
+    let a = entry c .args in
+    omega (arith, leb-true (a .sequence) limit (both (small (a .sequence)) (small (a .threshold) && (small (a .delay .0) && small (a .reordering))) (obeys c .1) .0))
+
+allow-requires : tie.Need-allow-requires
+allow-requires c κs = search needs
+
+refused-requires-3 : tie.Need-refused-requires-3
+refused-requires-3 c κs = search needs
 
 returns-3 : tie.Need-returns-3
 unfolding thresholdCall thresholdVerdict
@@ -63,12 +68,6 @@ returns-4 c =
     let e = c .before .before .before .before in
     let k = obeys (e .before .before .before) in
     rw (k .0, k .1, held (e .before .allow .ensures) (e .if3 .left), lt-ltb _ _ (c .before .if4 .taken)) (c .stale .ensures)
-
-add-end : tie.Need-add-end
-add-end c =
-    let k = c .before .before .before .before .before .before in
-    let a = entry k .args in
-    omega (arith, leb-true (a .sequence) limit (both (small (a .sequence)) (small (a .threshold) && (small (a .delay .0) && small (a .reordering))) (obeys k .1) .0))
 
 returns-5 : tie.Need-returns-5
 unfolding thresholdCall thresholdVerdict agreedAfter
@@ -87,10 +86,10 @@ threshold-spec =
     all-small-requires
     refused-requires-2
     returns-2
+    add-end
     allow-requires
     refused-requires-3
     returns-3
     stale-requires
     returns-4
-    add-end
     returns-5)
