@@ -14,17 +14,17 @@ SHORT = 240  # letters of what is said in plain words
 
 # The definitions that speak of lists: of calls, of parts, of reads, of reports. What is proved over all calls leads to one of them.
 LISTS = {
-    "crates/promises/specs/Sequence.antt",
-    "crates/promises/specs/Accepted.antt",
-    "crates/losses/specs/Sequence.antt",
-    "crates/tracked/specs/Told.antt",
-    "crates/uncut/specs/Cutting.antt",
-    "crates/pieces/specs/Handing.antt",
-    "crates/pieces/specs/Later.antt",
-    "crates/pieces/specs/Sessions.antt",
-    "crates/play/specs/Reads.antt",
-    "crates/page/specs/Pieces.antt",
-    "crates/totals/specs/Sums.antt",
+    ("crates/promises/specs/Sequence.antt", "Calls"),
+    ("crates/promises/specs/Passed.antt", "passed"),
+    ("crates/losses/specs/Sequence.antt", "Calls"),
+    ("crates/tracked/specs/Told.antt", "Call"),
+    ("crates/uncut/specs/Cutting.antt", "Fed"),
+    ("crates/pieces/specs/Handing.antt", "Handed"),
+    ("crates/pieces/specs/Later.antt", "later"),
+    ("crates/pieces/specs/Sessions.antt", "Session"),
+    ("crates/play/specs/Reads.antt", "answered"),
+    ("crates/page/specs/Pieces.antt", "turns"),
+    ("crates/totals/specs/Sums.antt", "addedAll"),
 }
 
 
@@ -51,7 +51,7 @@ def cells(register):
             yield f'{row.at()}: "{kind}" is none of the four kinds'
         if kind in pages.PROVED and not any("/proofs/" in link.path or link.path.endswith("functions.md") for link in row.links()):
             yield f"{row.at()}: proved, and no theorem is named"
-        led = {path for link in row.links() if "/proofs/" in link.path and link.named() for path, _ in sources.led_to(link.path, link.name)}
+        led = set().union(*[sources.led_to(link.path, link.name) for link in row.links() if "/proofs/" in link.path and link.named()])
         if kind == "proved over all calls" and not led & LISTS:
             yield f"{row.at()}: proved over all calls, and no theorem speaks of a list of calls"
         if kind == "run and compared" and "Run:" not in row.cells[3]:

@@ -154,6 +154,9 @@ class Found(unittest.TestCase):
     def test_proved_without_a_theorem(self):
         self.assert_found(checks.cells, altered(WEEK, "| run and compared |", "| proved of each call |"), "no theorem is named")
 
+    def test_lists_are_there(self):
+        self.assertEqual([one for one in checks.LISTS if one[1] not in sources.defined(one[0])], [])
+
     def test_over_all_calls_by_a_theorem_of_one_call(self):
         row = next(row for row in NOW.rows if row.cells[2] == "proved of each call" and row.page.endswith("01-03-numbers-on-the-wire.md"))
         line = NOW.texts[row.page].splitlines()[row.line - 1]
