@@ -10,12 +10,38 @@ static inline uint64_t wanted(const lumbixet_pieces *s)
     return FIXED + 2 * (s->come > METRICS ? s->numbers[METRICS] : 0) + 1;
 }
 
+/* What the number v brings behind so many others. */
+static inline uint64_t judge_number(const lumbixet_pieces *s, size_t before, uint64_t v)
+{
+    const uint64_t *n = s->numbers;
+    if (before == LOST)
+        return n[TOTAL] == n[RECEIVED] + n[LATE] + v ? LUMBIXET_ACCEPTED : LUMBIXET_SUM;
+    if (before == METRICS)
+        return v <= most_metrics(s->profile) ? LUMBIXET_ACCEPTED : LUMBIXET_COUNT_OR_TYPE;
+    if (before < FIXED || before % 2)
+        return LUMBIXET_ACCEPTED;
+    if (before == FIXED + 2 * n[METRICS])
+        return v <= MOST_ENTRIES ? LUMBIXET_ACCEPTED : LUMBIXET_COUNT_OR_TYPE;
+    bool rises = before == FIXED || v > n[before - 2];
+    return rises && good_type(s->profile, v) ? LUMBIXET_ACCEPTED : LUMBIXET_COUNT_OR_TYPE;
+}
+
 static bool numbers_consistent(const lumbixet_pieces *s)
 {
     for (size_t i = 0; i < s->come; i++)
-        if (s->numbers[i] > LARGEST)
+        if (s->numbers[i] > LARGEST || judge_number(s, i, s->numbers[i]))
             return false;
-    return s->come <= METRICS || s->numbers[METRICS] <= most_metrics(s->profile);
+    return true;
+}
+
+/* Behind a whole header: at most as many entries are left as it counts, and the place of the last one is one, where one came. */
+static bool entries_consistent(const lumbixet_pieces *s, uint64_t entries)
+{
+    if (s->left > entries || (s->left ? s->carried >= record_size(s->profile) : s->carried != 0))
+        return false;
+    if (s->left == entries)
+        return s->group == 0 && s->above == 0;
+    return s->group <= (s->profile == LUMBIXET_PROFILE_2 ? LARGEST : 0) && s->above != 0 && s->above <= LARGEST + 1;
 }
 
 static bool refusal_consistent(uint64_t number)
@@ -34,9 +60,12 @@ static bool consistent(const lumbixet_pieces *s)
         return false;
     if (s->stage == LUMBIXET_IN_NUMBERS)
         return s->come < wanted(s) && (s->carried == 0 || s->carried < (size_t)1 << ((uint8_t)s->bytes[0] >> 6));
+    if (s->come != wanted(s))
+        return false;
+    uint64_t entries = s->numbers[s->come - 1];
     if (s->stage == LUMBIXET_IN_ENTRIES)
-        return s->left <= MOST_ENTRIES && s->group <= LARGEST && s->above <= LARGEST + 1 && s->carried < record_size(s->profile);
-    return true;
+        return entries_consistent(s, entries);
+    return s->stage == LUMBIXET_ENDED || (entries && s->left <= record_size(s->profile) * (entries - 1));
 }
 
 static void refuse(lumbixet_pieces *s, uint64_t number)
@@ -122,21 +151,6 @@ static inline bool next_number(lumbixet_pieces *s, struct reader *part, uint64_t
     return true;
 }
 
-static inline uint64_t judge_number(const lumbixet_pieces *s, uint64_t v)
-{
-    const uint64_t *n = s->numbers;
-    if (s->come == LOST)
-        return n[TOTAL] == n[RECEIVED] + n[LATE] + v ? LUMBIXET_ACCEPTED : LUMBIXET_SUM;
-    if (s->come == METRICS)
-        return v <= most_metrics(s->profile) ? LUMBIXET_ACCEPTED : LUMBIXET_COUNT_OR_TYPE;
-    if (s->come < FIXED || s->come % 2)
-        return LUMBIXET_ACCEPTED;
-    if (s->come == wanted(s) - 1)
-        return v <= MOST_ENTRIES ? LUMBIXET_ACCEPTED : LUMBIXET_COUNT_OR_TYPE;
-    bool rises = s->come == FIXED || v > n[s->come - 2];
-    return rises && good_type(s->profile, v) ? LUMBIXET_ACCEPTED : LUMBIXET_COUNT_OR_TYPE;
-}
-
 static void take_numbers(lumbixet_pieces *s, struct reader *part)
 {
     uint64_t value;
@@ -144,7 +158,7 @@ static void take_numbers(lumbixet_pieces *s, struct reader *part)
     while (s->stage == LUMBIXET_IN_NUMBERS && part->at < part->length) {
         if (!next_number(s, part, &value, &length))
             return;
-        uint64_t fault = length == width(value) ? judge_number(s, value) : LUMBIXET_LONGER_FORM;
+        uint64_t fault = length == width(value) ? judge_number(s, s->come, value) : LUMBIXET_LONGER_FORM;
         if (fault) {
             refuse(s, fault);
             return;
@@ -226,8 +240,8 @@ uint64_t plain_pieces_open(lumbixet_pieces *s, uint64_t profile)
 lumbixet_pieces_taken plain_pieces_take(lumbixet_pieces *s, const uint8_t *bytes, size_t length, uint8_t *buffer, size_t room)
 {
     lumbixet_pieces_taken taken = {.result = consistent(s) ? LUMBIXET_ACCEPTED : LUMBIXET_INCONSISTENT};
-    if (!taken.result && room < record_size(s->profile))
-        taken.result = LUMBIXET_NO_ROOM;
+    if (!taken.result)
+        taken.result = room < record_size(s->profile) ? LUMBIXET_NO_ROOM : standing(s);
     if (taken.result)
         return taken;
     struct reader part = {bytes, length, 0};
@@ -247,13 +261,13 @@ lumbixet_pieces_taken plain_pieces_take(lumbixet_pieces *s, const uint8_t *bytes
 
 lumbixet_report plain_pieces_end(lumbixet_pieces *s)
 {
-    lumbixet_report report = {.result = LUMBIXET_INCONSISTENT};
-    if (!consistent(s))
+    lumbixet_report report = {.result = consistent(s) ? standing(s) : LUMBIXET_INCONSISTENT};
+    if (report.result)
         return report;
     if (s->stage == LUMBIXET_IN_ENTRIES && s->left == 0)
         s->stage = LUMBIXET_ENDED;
     else if (s->stage < LUMBIXET_REFUSED)
-        refuse(s, standing(s) ? standing(s) : LUMBIXET_ENDS);
+        refuse(s, LUMBIXET_ENDS);
     tidy(s);
     report.result = standing(s);
     if (!report.result)

@@ -21,13 +21,15 @@ extern "C" {
 enum {
     LUMBIXET_IN_NUMBERS = 0,  /* the header's numbers are coming */
     LUMBIXET_IN_ENTRIES = 1,  /* the header is whole, and the entries are coming, or all have come */
-    LUMBIXET_COUNTING = 2,    /* an entry was bad: what is left of the entries is counted and not looked at */
+    LUMBIXET_COUNTING = 2,    /* an entry was bad: the entry bytes left are counted and not looked at; with 0 left 12 stands */
     LUMBIXET_REFUSED = 3,     /* a refusal stands */
     LUMBIXET_ENDED = 4        /* the end was said, and the report was accepted */
 };
 
 /* The record. A host opens it by lumbixet_pieces_open and need not look inside. What means nothing in a stage is not looked
- * at, and a call that is not refused with 1 or 9 leaves 0 there. */
+ * at. A call that is refused with 1, with 9 or with the number of an earlier call leaves the record as it was; every other call
+ * leaves 0 there. The parts of a consistent record agree: from the entries on the header is whole, its numbers bring no refusal,
+ * and what is left is not more than it counts. docs/DECISIONS.md has the list. */
 typedef struct {
     uint64_t profile;     /* the report's profile, 1 or 2 */
     uint64_t stage;       /* LUMBIXET_IN_NUMBERS and so on */

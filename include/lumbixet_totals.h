@@ -1,6 +1,7 @@
 /* Lumbixet: the totals of a week's feedback reports, for hosts in C and C++. What lumbixet.h says of calls, records and
- * lent memory holds here too, but for one thing: a report that is refused is counted under its number, so the record
- * changes with it. Every byte of a record may hold anything; none is refused.
+ * lent memory holds here too. A report that is refused is counted under its number, so the totals change with it: the
+ * number tells what the report was counted as, and refuses no call. Every byte of a record may hold anything; none is
+ * refused.
  *
  * A host adds reports one by one, or gives a file of them in pieces, each report after its length, four bytes with the
  * high byte first. lumbixet_totals_piece takes what is whole and says how many bytes that was; the rest comes again at
@@ -41,7 +42,7 @@ typedef struct {
 
 /* What one report comes to. */
 typedef struct {
-    uint64_t result;      /* 0, 2, 10, 11, 12, 13, 15 or 20: the number under which it was counted */
+    uint64_t counted_as;  /* 0, 2, 10, 11, 12, 13, 15 or 20: the number under which it was counted */
     lumbixet_totals next; /* the totals with it */
 } lumbixet_added;
 
@@ -69,7 +70,7 @@ lumbixet_taken lumbixet_totals_piece(lumbixet_totals totals, const uint8_t *piec
 /* Writes the page at the start of the buffer, in ASCII, a line for each sum: name and number, and " full" where it is;
  * refusals only where they occur. `left` is how many bytes of the file are left at its end, 0 where reports were added
  * one by one: where some are, or some were still to be skipped, the file ended early and the page is the line "2" alone.
- * 9: the buffer is shorter than LUMBIXET_PAGE_ROOM. */
+ * 9: the buffer is shorter than the page, and no byte of it is written; LUMBIXET_PAGE_ROOM bytes always suffice. */
 lumbixet_page lumbixet_totals_page(lumbixet_totals totals, size_t left, uint8_t *buffer, size_t length);
 
 #ifdef __cplusplus

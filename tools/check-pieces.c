@@ -131,8 +131,9 @@ static void wrong(lumbixet_pieces *p, size_t place, uint8_t byte, size_t length,
     }
     SAME(lumbixet_pieces_end(p).result, result ? result : LUMBIXET_ENDS);
     SAME(take(p, bytes, length, 16).result, result ? result : LUMBIXET_ENDS);
-    SAME(p->stage, LUMBIXET_REFUSED);
-    SAME(p->left, result ? result : LUMBIXET_ENDS);
+    /* 12 stood before the end, which left the record as it was */
+    SAME(p->stage, result == LUMBIXET_ENTRY ? LUMBIXET_COUNTING : LUMBIXET_REFUSED);
+    SAME(p->left, result == LUMBIXET_ENTRY ? 0 : result ? result : LUMBIXET_ENDS);
 }
 
 static void refusals(lumbixet_pieces *p)
@@ -165,6 +166,36 @@ static void made_up(lumbixet_pieces *p)
     }
 }
 
+/* Each of these has parts that disagree: no header before its entries; 7 of 0 and 0 and 0; more entries left than it counts; a
+ * group in profile 1; more bytes to be counted on than a report has; accepted without a header. */
+static void disagreeing(void)
+{
+    static const lumbixet_pieces given[] = {
+        {.profile = 1, .stage = LUMBIXET_IN_ENTRIES},
+        {.profile = 1, .stage = LUMBIXET_IN_ENTRIES, .come = 9, .numbers = {[2] = 7}},
+        {.profile = 1, .stage = LUMBIXET_IN_ENTRIES, .left = 200, .above = 1, .come = 9},
+        {.profile = 1, .stage = LUMBIXET_IN_ENTRIES, .group = 5, .above = 1, .come = 9, .numbers = {[8] = 1}},
+        {.profile = 1, .stage = LUMBIXET_COUNTING, .left = UINT64_MAX, .come = 9, .numbers = {[8] = 2}},
+        {.profile = 1, .stage = LUMBIXET_ENDED},
+    };
+    for (size_t i = 0; i < sizeof given / sizeof given[0]; i++) {
+        lumbixet_pieces spoiled = given[i];
+        SAME(take(&spoiled, report, WHOLE, 32).result, LUMBIXET_INCONSISTENT);
+        SAME(lumbixet_pieces_end(&spoiled).result, LUMBIXET_INCONSISTENT);
+        SAME(memcmp(&spoiled, &given[i], sizeof spoiled), 0);
+    }
+}
+
+/* A refusal that stands is given again, and the record stays as it was, words that mean nothing included. */
+static void standing(void)
+{
+    static const lumbixet_pieces given = {.profile = 1, .stage = LUMBIXET_REFUSED, .left = LUMBIXET_SUM, .group = 7, .come = 3};
+    lumbixet_pieces refused = given;
+    SAME(take(&refused, report, WHOLE, 32).result, LUMBIXET_SUM);
+    SAME(lumbixet_pieces_end(&refused).result, LUMBIXET_SUM);
+    SAME(memcmp(&refused, &given, sizeof refused), 0);
+}
+
 int main(void)
 {
     lumbixet_pieces pieces;
@@ -173,6 +204,8 @@ int main(void)
     rooms(&pieces);
     refusals(&pieces);
     made_up(&pieces);
+    disagreeing();
+    standing();
     if (faults == 0)
         printf("pieces: %d values of the archive are as include/lumbixet_pieces.h says\n", seen);
     return faults != 0;

@@ -7,6 +7,7 @@ SIZE(lumbixet_totals, 472);
 AT(lumbixet_totals, full, 232);
 AT(lumbixet_totals, skip, 464);
 SIZE(lumbixet_added, 480);
+AT(lumbixet_added, counted_as, 0);
 AT(lumbixet_added, next, 8);
 SIZE(lumbixet_taken, 480);
 AT(lumbixet_taken, used, 472);
@@ -30,11 +31,11 @@ static uint64_t given(size_t place, uint8_t byte, size_t length)
     memcpy(report, good, sizeof good);
     report[place] = byte;
     lumbixet_added added = lumbixet_totals_add(lumbixet_totals_open(), report, length);
-    SAME(added.next.sums[added.result], 1);
+    SAME(added.next.sums[added.counted_as], 1);
     for (unsigned at = 0; at < LUMBIXET_AT_TOTAL; at++)
-        if (at != added.result)
+        if (at != added.counted_as)
             SAME(added.next.sums[at], 0);
-    return added.result;
+    return added.counted_as;
 }
 
 static void numbers(void)
@@ -109,19 +110,25 @@ static void page(void)
     SAME(lumbixet_totals_page(first.next, 0, buffer, sizeof buffer).length, 2);
     lumbixet_taken last = lumbixet_totals_piece(second.next, file + sizeof file - left, left);
     SAME(last.used, left);
+    /* a room that lacks one byte of the page, and one that just holds it */
     memset(buffer, 'x', sizeof buffer);
-    SAME(lumbixet_totals_page(last.next, 0, buffer, sizeof buffer - 1).result, LUMBIXET_NO_ROOM);
-    SAME(buffer[0], 'x');
-    lumbixet_page written = lumbixet_totals_page(last.next, 0, buffer, sizeof buffer);
+    lumbixet_page written = lumbixet_totals_page(last.next, 0, buffer, sizeof wanted - 2);
+    SAME(written.result, LUMBIXET_NO_ROOM);
+    SAME(written.length, 0);
+    for (size_t at = 0; at < sizeof buffer; at++)
+        SAME(buffer[at], 'x');
+    written = lumbixet_totals_page(last.next, 0, buffer, sizeof wanted - 1);
     SAME(written.result, LUMBIXET_ACCEPTED);
     SAME(written.length, sizeof wanted - 1);
     SAME(memcmp(buffer, wanted, sizeof wanted - 1), 0);
     SAME(buffer[sizeof wanted - 1], 'x');
+    SAME(lumbixet_totals_page(last.next, 1, buffer, 1).result, LUMBIXET_NO_ROOM);
+    SAME(lumbixet_totals_page(last.next, 1, buffer, 2).length, 2);
     memset(&last.next, 0xff, sizeof last.next);
     last.next.skip = 0;
     written = lumbixet_totals_page(last.next, 0, buffer, sizeof buffer);
+    SAME(written.result, LUMBIXET_ACCEPTED);
     SAME(memcmp(buffer, full, sizeof full - 1), 0);
-    SAME(written.length <= LUMBIXET_PAGE_ROOM, 1);
 }
 
 int main(void)

@@ -50,12 +50,13 @@ pub fn compare_everywhere(random: &mut Random, tally: &mut Tally, profile: u64, 
     let Ok(mut reader) = open(profile) else { return Ok(()) };
     let size = reader.profile.record();
     let (places, came) = course(&mut reader, bytes);
+    let stood = reader.is_refused();
     let end = match reader.end() {
         Ok(header) => Report { result: ACCEPTED, header: raw_header(&header) },
         Err(result) => Report { result, ..Report::default() },
     };
     let last = places.len() - 1;
-    let ended = raw_after(&places[last].record, &reader);
+    let ended = if stood { places[last].record } else { raw_after(&places[last].record, &reader) };
     let lent = Lent::new(random, came.len() + size);
     let (mut wanted, mut memory) = (lent.clone(), lent.clone());
     let [take, close] = [["pieces_take 1", "pieces_take 2", "pieces_take else"], ["pieces_end 1", "pieces_end 2", "pieces_end else"]]

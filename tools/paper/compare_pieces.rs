@@ -49,6 +49,7 @@ impl Both {
         let mut papers_lent = Lent::new(random, room);
         let mut archive_lent = papers_lent.clone();
         let given = (self.raw, self.papers.clone());
+        let stood = given.1.as_ref().map_or(false, Pieces::is_refused);
         let taken = self.papers.as_mut().map_or(Taken::refused(INCONSISTENT), |papers| papers.take(part, papers_lent.buffer()));
         let papers = PiecesTaken {
             result: taken.result,
@@ -57,12 +58,14 @@ impl Both {
             whole: u64::from(taken.header.is_some()),
             header: raw_header(&taken.header.unwrap_or_default()),
         };
-        let (start, refused) = (archive_lent.buffer().as_mut_ptr(), [INCONSISTENT, NO_ROOM].contains(&taken.result));
+        // "A refusal returns its number and the record as it came in"; a fault of the report's own is kept for later calls
+        let unchanged = stood || [INCONSISTENT, NO_ROOM].contains(&taken.result);
+        let start = archive_lent.buffer().as_mut_ptr();
         let (archive, next) =
             leaves(&self.raw, |lent| unsafe { lumbixet_pieces_take(lent, part.as_ptr(), part.len(), start, room) })?;
         let name = named(self.raw.profile, ["pieces_take 1", "pieces_take 2", "pieces_take else"]);
         let call = Call { name, result: taken.result, given: &(&given, part, room) };
-        let wanted = self.papers.as_ref().filter(|_| !refused).map_or(self.raw, |papers| raw_after(&self.raw, papers));
+        let wanted = self.papers.as_ref().filter(|_| !unchanged).map_or(self.raw, |papers| raw_after(&self.raw, papers));
         tally.compare(call, (papers, &papers_lent.memory, wanted), (archive, &archive_lent.memory, next))?;
         self.raw = next;
         if let (Some(before), Some(after)) = (&given.1, &self.papers) {
@@ -79,7 +82,8 @@ impl Both {
             Ok(header) => Report { result: ACCEPTED, header: raw_header(&header) },
             Err(result) => Report { result, ..Report::default() },
         };
-        let wanted = self.papers.as_ref().map_or(self.raw, |papers| raw_after(&self.raw, papers));
+        let stood = before.as_ref().map_or(false, Pieces::is_refused);
+        let wanted = self.papers.as_ref().filter(|_| !stood).map_or(self.raw, |papers| raw_after(&self.raw, papers));
         let archive = leaves(&self.raw, |lent| unsafe { lumbixet_pieces_end(lent) })?;
         let name = named(self.raw.profile, ["pieces_end 1", "pieces_end 2", "pieces_end else"]);
         tally.compare(Call { name, result: papers.result, given: &self.raw }, (papers, wanted), archive)?;
@@ -119,9 +123,9 @@ fn note_take(tally: &mut Tally, before: &Pieces, after: &Pieces, part: &[u8], ro
     tally.note("12 with the last of all entry bytes", taken.result == ENTRY && taken.bytes > 0);
     tally.note("12 where a byte too many follows", taken.result == ENTRY && taken.bytes > 0 && taken.bytes < part.len());
     tally.note("entries delivered by the call that refuses", taken.records > 0 && !accepted);
-    let stood = before.settled.map_or(false, |result| result != ACCEPTED);
+    let stood = before.is_refused();
     tally.note("9 before a refusal that stands", stood && taken.result == NO_ROOM);
-    tally.note("a refusal again", stood && taken.result == before.settled.unwrap_or(ACCEPTED) && !part.is_empty());
+    tally.note("a refusal again", stood && taken.result != NO_ROOM && !part.is_empty());
     tally.note("nothing taken after an accepted end", before.settled == Some(ACCEPTED) && accepted && !part.is_empty());
 }
 

@@ -8,9 +8,6 @@ use crate::tally::{Call, Lent, Tally};
 use crate::week::{Week, LONGEST, PLACES};
 use crate::weeks::{damaged, report, with_length};
 
-/// Bytes that hold every page: 29 lines of `entries not received `, twenty digits and ` full` with the line's end.
-const ROOM: usize = 29 * 47;
-
 pub fn round(random: &mut Random, tally: &mut Tally) -> Result<(), String> {
     let opened = WeekTotals { sums: [0; PLACES], full: [0; PLACES], skip: 0 };
     tally.compare(Call { name: "totals_open", result: ACCEPTED, given: &() }, opened, unsafe { lumbixet_totals_open() })?;
@@ -82,12 +79,12 @@ fn compare_add(random: &mut Random, tally: &mut Tally, given: &WeekTotals) -> Re
         week.add(&report);
     }
     // it is counted at its number, 0 for accepted
-    let result = week.places().iter().position(|count| *count == 1).map_or(u64::MAX, |place| place as u64);
-    let papers = Added { result, next: with(tally, given, &week) };
+    let counted_as = week.places().iter().position(|count| *count == 1).map_or(u64::MAX, |place| place as u64);
+    let papers = Added { counted_as, next: with(tally, given, &week) };
     let archive = unsafe { lumbixet_totals_add(*given, report.as_ptr(), report.len()) };
-    tally.compare(Call { name: "totals_add", result, given: &(given, &report) }, papers, archive)?;
-    tally.note("20 for a report of 8,193 bytes", result == TOO_LONG && length == LONGEST + 1);
-    tally.note("another number for a report of 8,192 bytes", result != TOO_LONG && length == LONGEST);
+    tally.compare(Call { name: "totals_add", result: counted_as, given: &(given, &report) }, papers, archive)?;
+    tally.note("20 for a report of 8,193 bytes", counted_as == TOO_LONG && length == LONGEST + 1);
+    tally.note("another number for a report of 8,192 bytes", counted_as != TOO_LONG && length == LONGEST);
     Ok(archive.next)
 }
 
@@ -160,15 +157,17 @@ fn page(given: &WeekTotals) -> String {
     page
 }
 
-/// In the least room, in one byte less, and in any; with bytes left of the file, and without.
+/// "9 the smallest permitted output does not fit the room": the page is one output, so 9 goes by its own length. In just that room,
+/// in one byte less, and in any; with bytes left of the file, and without.
 fn compare_page(random: &mut Random, tally: &mut Tally, given: &WeekTotals) -> Result<(), String> {
     let left = random.one_of(&[0, 0, 0, 1, usize::MAX]);
-    let length = random.one_of(&[ROOM, ROOM, ROOM - 1, ROOM + 40, 0]);
     let early = given.skip > 0 || left > 0;
     let text = if early { format!("{ENDS}\n") } else { page(given) };
+    let any = random.below(2000) as usize;
+    let length = random.one_of(&[text.len(), text.len(), text.len() - 1, text.len() + 40, any, 0]);
     let mut papers_lent = Lent::new(random, length);
     let mut archive_lent = Lent { memory: papers_lent.memory.clone(), length };
-    let papers = if length < ROOM {
+    let papers = if length < text.len() {
         Page { result: NO_ROOM, length: 0 }
     } else {
         papers_lent.buffer()[..text.len()].copy_from_slice(text.as_bytes());
@@ -178,5 +177,7 @@ fn compare_page(random: &mut Random, tally: &mut Tally, given: &WeekTotals) -> R
     let call = Call { name: "totals_page", result: papers.result, given: &(given, left, length) };
     tally.compare(call, (papers, papers_lent.memory), (archive, archive_lent.memory))?;
     tally.note("a page of 2 alone", early && papers.result == ACCEPTED);
+    tally.note("a page that just fits", !early && length == text.len());
+    tally.note("9 for a room that lacks one byte", !early && length + 1 == text.len());
     Ok(())
 }

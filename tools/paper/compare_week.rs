@@ -6,6 +6,9 @@ use crate::traces::Input;
 use crate::week;
 use crate::weeks::{for_cuts, input};
 use std::collections::BTreeMap;
+use std::fs::File;
+use std::io;
+use std::process::Command;
 
 /// Every number of refused reports that a file can bring, the line of a file that ends early, and a full total.
 const WANTED: [&str; 9] =
@@ -29,7 +32,8 @@ pub fn run(program: &str, count: usize) -> Result<(), String> {
         let made = Input { name: "cut at every byte", bytes: whole[..length].to_vec() };
         compare(program, &mut seen, length, &made)?;
     }
-    println!("{} pages agree", seen.files.values().sum::<usize>());
+    compare_failed(program)?;
+    println!("{} pages agree, and of a folder, which cannot be read, there is none", seen.files.values().sum::<usize>());
     print_table("files", &seen.files);
     print_table("pages with", &seen.pages_with);
     seen.judge()
@@ -44,6 +48,25 @@ fn compare(program: &str, seen: &mut Seen, index: usize, made: &Input) -> Result
     }
     seen.note(made, &String::from_utf8_lossy(&expected));
     Ok(())
+}
+
+/// Where reading fails no page is printed, and it is said. A folder is opened like a file, and its first read fails.
+fn compare_failed(program: &str) -> Result<(), String> {
+    let failed = |error: io::Error| format!("{program}, of a folder: {error}");
+    let mut expected = Vec::new();
+    if week::run(File::open("/").map_err(failed)?, &mut expected).is_ok() || !expected.is_empty() {
+        return Err("a folder was read".to_string());
+    }
+    let mut words = program.split(' ');
+    let mut command = Command::new(words.next().unwrap_or_default());
+    let ended = command.args(words).stdin(File::open("/").map_err(failed)?).output().map_err(failed)?;
+    if ended.stdout.is_empty() && !ended.stderr.is_empty() {
+        return Ok(());
+    }
+    let (printed, said) = (String::from_utf8_lossy(&ended.stdout), String::from_utf8_lossy(&ended.stderr));
+    Err(format!(
+        "a folder differs:\n  by the papers: no page, and it is said\n  by the program: '{printed}', and it says '{said}'"
+    ))
 }
 
 impl Seen {

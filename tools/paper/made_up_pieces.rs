@@ -3,12 +3,11 @@
 use crate::archive::Pieces as Raw;
 use crate::made_up::up_to;
 use crate::made_up_report::{numbers_of, profile, profile_of, report};
-use crate::numbers::{read, LARGEST};
+use crate::numbers::{read, Number, LARGEST};
 use crate::pieces::{open, records_to_come, Awaited, Pieces};
 use crate::profile::Profile;
 use crate::random::Random;
 use crate::refusals::{ACCEPTED, BYTES_BEHIND, COUNT_OR_TYPE, ENDS, ENTRY, LONGER_FORM, SUM};
-use crate::report::{restored, Header, MOST_ENTRIES};
 
 /// The stages of the archive's record.
 const IN_NUMBERS: u64 = 0;
@@ -24,29 +23,6 @@ const MOST_NUMBERS: u64 = 25;
 const MOST_CARRIED: u64 = 24;
 /// What a report may be refused with once it was opened.
 const REFUSALS: [u64; 6] = [ENDS, COUNT_OR_TYPE, SUM, ENTRY, BYTES_BEHIND, LONGER_FORM];
-
-/// The header of numbers in the report's order. A made-up record may have fewer than a header: those that lack are 0, and the last
-/// is taken for the entry count.
-fn header_of(numbers: &[u64]) -> Header {
-    let at = |place: usize| numbers.get(place).copied().unwrap_or(0);
-    let mut header = Header {
-        timestamp: at(0),
-        interval: at(1),
-        total: at(2),
-        received: at(3),
-        late: at(4),
-        lost: at(5),
-        average: restored(at(6)),
-        metrics: at(7),
-        entries: numbers.last().copied().unwrap_or(0),
-        ..Header::default()
-    };
-    for index in 0..header.metrics as usize {
-        header.kinds[index] = at(FIXED + 2 * index);
-        header.values[index] = at(FIXED + 2 * index + 1);
-    }
-    header
-}
 
 /// What the number at a place is.
 fn awaited_at(place: usize, metrics: u64) -> Awaited {
@@ -69,35 +45,50 @@ pub fn pieces_of(raw: &Raw) -> Option<Pieces> {
         pieces.settled = Some(raw.left).filter(|left| REFUSALS.contains(left));
         return pieces.settled.is_some().then_some(pieces);
     }
-    let numbers = &raw.numbers[..raw.come as usize];
-    let metrics = numbers.get(FIXED - 1).copied().unwrap_or(0);
-    if numbers.iter().any(|number| *number > LARGEST) || metrics > pieces.profile.most_metrics() as u64 {
-        return None;
+    // the numbers come once more: each obeys 5, a header wants it, and it brings no fault
+    for value in raw.numbers[..raw.come as usize].iter().copied() {
+        if value > LARGEST || pieces.is_headed() {
+            return None;
+        }
+        pieces.number(Number { value, next: 0, shortest: true }).ok()?;
     }
-    pieces.header = header_of(numbers);
     let carried = raw.bytes[..raw.carried as usize].iter().map(|byte| *byte as u8).collect();
-    match raw.stage {
-        IN_NUMBERS => in_numbers(pieces, numbers.len(), carried),
-        IN_ENTRIES => in_entries(pieces, raw, carried),
-        COUNTING => Some(Pieces { awaited: Awaited::Counted(raw.left), ..pieces }),
-        _ => Some(Pieces { awaited: Awaited::Behind, settled: Some(ACCEPTED), ..pieces }),
+    match (raw.stage, pieces.is_headed()) {
+        (IN_NUMBERS, false) => in_numbers(pieces, carried),
+        (IN_ENTRIES, true) => in_entries(pieces, raw, carried),
+        (COUNTING, true) => counting(pieces, raw.left),
+        (ENDED, true) => Some(Pieces { awaited: Awaited::Behind, settled: Some(ACCEPTED), ..pieces }),
+        _ => None,
     }
 }
 
-/// The header is not whole, and neither is what is carried of its next number.
-fn in_numbers(pieces: Pieces, come: usize, carried: Vec<u8>) -> Option<Pieces> {
-    let whole_header = come > FIXED + 2 * pieces.header.metrics as usize;
+/// What is carried of the next number is not a whole one.
+fn in_numbers(pieces: Pieces, carried: Vec<u8>) -> Option<Pieces> {
     let whole_number = read(&carried, 0).is_ok();
-    let awaited = awaited_at(come.min(FIXED + 2 * pieces.header.metrics as usize), pieces.header.metrics);
-    Some(Pieces { awaited, carried, ..pieces }).filter(|_| !whole_header && !whole_number)
+    Some(Pieces { carried, ..pieces }).filter(|_| !whole_number)
 }
 
-/// At most 200 records are to come, the last one's place is one, and what is carried is not a whole record.
+/// The entries to come are some of those that the header counts. The last one's place is one, in profile 1 of no group, and there is
+/// none before the first entry. What is carried is not a whole entry, and is nothing where none is to come.
 fn in_entries(pieces: Pieces, raw: &Raw, carried: Vec<u8>) -> Option<Pieces> {
-    let place_obeys = raw.group <= LARGEST && raw.above <= LARGEST + 1;
-    let obeys = raw.left <= MOST_ENTRIES && place_obeys && carried.len() < pieces.profile.record();
+    let (none_came, none_to_come) = (raw.left == pieces.header.entries, raw.left == 0);
+    let largest_group = if pieces.profile == Profile::One { 0 } else { LARGEST };
+    let place_obeys = if none_came {
+        (raw.group, raw.above) == (0, 0)
+    } else {
+        raw.group <= largest_group && raw.above > 0 && raw.above <= LARGEST + 1
+    };
+    let unfinished = if none_to_come { carried.is_empty() } else { carried.len() < pieces.profile.record() };
+    let obeys = raw.left <= pieces.header.entries && place_obeys && unfinished;
     let (awaited, least) = (records_to_come(raw.left), (raw.group, raw.above));
     Some(Pieces { awaited, least, carried, ..pieces }).filter(|_| obeys)
+}
+
+/// The bad entry was one of those that the header counts, and the bytes to come are at most those of the others.
+fn counting(pieces: Pieces, left: u64) -> Option<Pieces> {
+    let others = pieces.header.entries.checked_sub(1)?;
+    let obeys = left <= others * pieces.profile.record() as u64;
+    Some(Pieces { awaited: Awaited::Counted(left), ..pieces }).filter(|_| obeys)
 }
 
 /// The archive's record for where the papers' reader stands now; `given` is the one before. Words that mean nothing are 0.
@@ -184,7 +175,7 @@ pub fn other_word(random: &mut Random, raw: &mut Raw) {
 }
 
 /// The clauses of docs/DECISIONS.md on 1, each with the moment that it is broken by itself.
-pub const CLAUSES: [&str; 13] = [
+pub const CLAUSES: [&str; 23] = [
     "1 for nothing but another profile",
     "1 for nothing but another stage",
     "1 for nothing but more numbers than a header has",
@@ -194,39 +185,70 @@ pub const CLAUSES: [&str; 13] = [
     "1 for a header that is whole already",
     "1 for a number that is whole already",
     "1 for an entry that is whole already",
-    "1 for more than 200 entries to come",
+    "1 for more entries to come than the header counts",
     "1 for a last group above 2^62 - 1",
     "1 for a last object above 2^62 - 1",
     "1 for a refusal that no report is given",
+    "1 for nothing but the sum",
+    "1 for nothing but a metric type",
+    "1 for nothing but the entry count",
+    "1 for entries behind a header that is not whole",
+    "1 for bytes counted behind a header that is not whole",
+    "1 for a report accepted with a header that is not whole",
+    "1 for a last group in profile 1",
+    "1 for a last entry before the first came",
+    "1 for bytes carried where no entry is to come",
+    "1 for more bytes to be counted than the other entries have",
 ];
 
 /// Breaks one clause of a consistent record; false where the record's stage has no such clause, or the change breaks nothing.
 pub fn break_clause(random: &mut Random, raw: &mut Raw, clause: usize) -> bool {
     let any = up_to(random, u64::MAX);
     let above = random.one_of(&[LARGEST + 1, LARGEST + 2, u64::MAX]);
-    let (come, stage) = (raw.come as usize, raw.stage);
-    let record = profile_of(raw.profile).record() as u64;
+    let (come, stage, profile) = (raw.come as usize, raw.stage, profile_of(raw.profile));
+    let record = profile.record() as u64;
+    let headed = [IN_ENTRIES, COUNTING, ENDED].contains(&stage);
+    let entries = if headed { raw.numbers[come - 1] } else { 0 };
+    let some_came = stage == IN_ENTRIES && raw.left < entries;
     match clause {
         0 => raw.profile = random.one_of(&[0, 3, 1 << 32 | raw.profile, any.max(3)]),
         1 => raw.stage = random.one_of(&[5, 6, 1 << 32 | stage, any.max(5)]),
         2 => raw.come = random.one_of(&[26, 27, 1 << 32 | raw.come, any.max(26)]),
         3 => raw.carried = random.one_of(&[25, 26, 1 << 32 | raw.carried, any.max(25)]),
         4 if stage != REFUSED && come > 0 => raw.numbers[random.below(raw.come) as usize] = above,
-        5 if stage != REFUSED && come >= FIXED => raw.numbers[FIXED - 1] = metrics_above(random, profile_of(raw.profile)),
-        6 if stage == IN_NUMBERS => {
-            raw.numbers.iter_mut().for_each(|number| *number = (*number).min(LARGEST));
-            raw.numbers[FIXED - 1] = raw.numbers[FIXED - 1].min(profile_of(raw.profile).most_metrics() as u64);
-            raw.come = FIXED as u64 + 2 * raw.numbers[FIXED - 1] + 1;
-        }
+        5 if stage != REFUSED && come >= FIXED => raw.numbers[FIXED - 1] = metrics_above(random, profile),
+        6 if headed => (raw.stage, raw.carried) = (IN_NUMBERS, 0),
         7 if stage == IN_NUMBERS => {
             let (code, more) = (random.below(4), random.one_of(&[0, 0, 1, 16]));
             (raw.bytes[0], raw.carried) = (random.any() << 8 | code << 6 | random.below(64), (1 << code) + more);
         }
-        8 if stage == IN_ENTRIES => raw.carried = random.between(record, MOST_CARRIED),
-        9 if stage == IN_ENTRIES => raw.left = random.one_of(&[201, 202, 1 << 32, any.max(201)]),
-        10 if stage == IN_ENTRIES => raw.group = above,
-        11 if stage == IN_ENTRIES => raw.above = above.saturating_add(1),
+        8 if stage == IN_ENTRIES && raw.left > 0 => raw.carried = random.between(record, MOST_CARRIED),
+        // with a place, as behind an entry that came
+        9 if stage == IN_ENTRIES => {
+            (raw.left, raw.above) = (random.one_of(&[entries + 1, entries + 2, 200.max(entries + 1), 1 << 32]), raw.above.max(1))
+        }
+        10 if some_came && profile == Profile::Two => raw.group = above,
+        11 if some_came => raw.above = random.one_of(&[0, above.saturating_add(1)]),
         12 if stage == REFUSED => raw.left = random.one_of(&[0, 1, 3, 9, 14, 16, 18, 20, any.max(16)]),
+        13 if stage != REFUSED && come > 5 => raw.numbers[2] = random.one_of(&[raw.numbers[2] ^ 1, 7, LARGEST]),
+        14 if stage != REFUSED && come > FIXED && raw.numbers[FIXED - 1] > 0 => {
+            let place = FIXED + 2 * random.below(raw.numbers[FIXED - 1]) as usize;
+            raw.numbers[place] = random.one_of(&[raw.numbers[place] + 1, 1, 3, 0x14, LARGEST - 1]);
+        }
+        15 if headed => raw.numbers[come - 1] = random.one_of(&[201, 202, LARGEST]),
+        16 if stage == IN_NUMBERS => {
+            (raw.stage, raw.left, raw.group, raw.above, raw.carried) = (IN_ENTRIES, 0, 0, random.below(2), 0);
+        }
+        17 if stage == IN_NUMBERS => (raw.stage, raw.left) = (COUNTING, random.below(2)),
+        18 if stage == IN_NUMBERS => raw.stage = ENDED,
+        19 if some_came && profile == Profile::One => raw.group = random.one_of(&[1, 5, LARGEST, above]),
+        20 if stage == IN_ENTRIES && raw.left == entries => {
+            (raw.group, raw.above) = random.one_of(&[(1, 0), (0, 1), (1, 1), (LARGEST, 5)]);
+        }
+        21 if stage == IN_ENTRIES && raw.left == 0 => raw.carried = random.between(1, record - 1),
+        22 if stage == COUNTING => {
+            raw.left = random.one_of(&[record * entries, record * (entries - 1) + 1, 1 << 32, u64::MAX]);
+        }
         _ => return false,
     }
     pieces_of(raw).is_none()

@@ -269,4 +269,6 @@ pub const MOMENTS: &[&str] = &[
     "a piece that ends in a report",
     "a piece that ends while a long report is skipped",
     "a page of 2 alone",
+    "a page that just fits",
+    "9 for a room that lacks one byte",
 ];

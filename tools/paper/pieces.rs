@@ -102,6 +102,16 @@ impl Pieces {
         self.whole_header().ok_or(result)
     }
 
+    /// A refusal stands: "later calls give these again".
+    pub fn is_refused(&self) -> bool {
+        self.stands().unwrap_or(ACCEPTED) != ACCEPTED
+    }
+
+    /// The last number of the header has come.
+    pub fn is_headed(&self) -> bool {
+        matches!(self.awaited, Awaited::Record(_) | Awaited::Counted(_) | Awaited::Behind)
+    }
+
     /// The answer that stands: "12 is given when all the report's entry bytes have come".
     fn stands(&self) -> Option<u64> {
         let counted = Some(ENTRY).filter(|_| self.awaited == Awaited::Counted(0));
@@ -110,9 +120,7 @@ impl Pieces {
 
     /// The header, once its last number has come; none beside a refusal.
     fn whole_header(&self) -> Option<Header> {
-        let whole = matches!(self.awaited, Awaited::Record(_) | Awaited::Counted(_) | Awaited::Behind);
-        let refused = self.stands().unwrap_or(ACCEPTED) != ACCEPTED;
-        Some(self.header).filter(|_| whole && !refused)
+        Some(self.header).filter(|_| self.is_headed() && !self.is_refused())
     }
 
     /// One byte more. Gives the record that it completes, where that is a good one.
@@ -156,7 +164,7 @@ impl Pieces {
     }
 
     /// A number of the header is whole: "15, given at the field, before 10 and 11"; then its own rule.
-    fn number(&mut self, number: Number) -> Result<(), u64> {
+    pub fn number(&mut self, number: Number) -> Result<(), u64> {
         if !number.shortest {
             return Err(LONGER_FORM);
         }

@@ -219,11 +219,11 @@ pub struct WeekTotals {
     pub skip: u64,
 }
 
-/// `lumbixet_added`: the number that a report is given, and the totals with it.
+/// `lumbixet_added`: the number under which a report was counted, 0 for accepted, and the totals with it.
 #[repr(C)]
 #[derive(Clone, Copy, Debug, PartialEq, Eq)]
 pub struct Added {
-    pub result: u64,
+    pub counted_as: u64,
     pub next: WeekTotals,
 }
 

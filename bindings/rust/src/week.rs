@@ -41,14 +41,14 @@ impl Week {
         Week { record: unsafe { raw::lumbixet_totals_open() } }
     }
 
-    /// Adds one report. One that is refused is counted under its refusal.
+    /// Adds one report. The answer is what the report was counted as, and no refusal of this call: the totals change with an `Err` too.
     ///
     /// # Errors
     /// Those of [`Report::read`](crate::Report::read), and [`Refusal::TooLong`] above 8,192 bytes.
     pub fn add(&mut self, report: &[u8]) -> Result<(), Refusal> {
         let added = unsafe { raw::lumbixet_totals_add(self.record, report.as_ptr(), report.len()) };
         self.record = added.next;
-        accepted(added.result)
+        accepted(added.counted_as)
     }
 
     /// Adds the reports of a piece of a file, each after its length, four bytes with the high byte first. Answers how many bytes
@@ -64,7 +64,7 @@ impl Week {
     /// some are, or some were still to be skipped, the file ended early and the page is the line `2` alone.
     ///
     /// # Errors
-    /// [`Refusal::NoRoom`] below [`PAGE_ROOM`] bytes.
+    /// [`Refusal::NoRoom`] where the page does not fit, and nothing is written; [`PAGE_ROOM`] bytes always suffice.
     pub fn page<'a>(&self, left: usize, buffer: &'a mut [u8]) -> Result<&'a [u8], Refusal> {
         let page = unsafe { raw::lumbixet_totals_page(self.record, left, buffer.as_mut_ptr(), buffer.len()) };
         accepted(page.result)?;

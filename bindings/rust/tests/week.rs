@@ -43,7 +43,11 @@ fn one_by_one() {
     let mut buffer = [0; PAGE_ROOM];
     assert_eq!(week.page(0, &mut buffer), Ok(PAGE.as_bytes()));
     assert_eq!(week.page(1, &mut buffer), Ok(&b"2\n"[..]));
+    // a room that just holds it, and one that lacks one byte
+    let mut buffer = [b'x'; PAGE.len()];
     assert_eq!(week.page(0, &mut buffer[1..]), Err(Refusal::NoRoom));
+    assert_eq!(buffer, [b'x'; PAGE.len()]);
+    assert_eq!(week.page(0, &mut buffer), Ok(PAGE.as_bytes()));
 }
 
 #[test]

@@ -89,7 +89,7 @@ be-more (b ∷ bs) acc =
 
 -- the field of four bytes at 8 is the status above the three zero bytes
 module _ (b : List ℕ) (o : Octets b) (h : entrySize ≤ length b) where
-  mark-is : be 0 (take 4 (drop 8 b)) ≡ statusOf b * 16777216 + zerosOf b
+  pub mark-is : be 0 (take 4 (drop 8 b)) ≡ statusOf b * 16777216 + zerosOf b
   mark-is =
       let l : length (take 3 (drop 9 b)) ≡ 3 = length-take-le 3 (drop 9 b) (rw (length-drop) (omega arith)) in
       let e : take 4 (drop 8 b) ≡ statusOf b ∷ take 3 (drop 9 b) = rw (drop-cons b 8 0 (omega arith)) in

@@ -8,5 +8,6 @@ pub mod Verdicts
 pub mod Runs
 pub mod Largest
 pub mod Exactly
+pub mod Values
 pub mod Last
 pub mod Only

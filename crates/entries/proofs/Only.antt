@@ -22,8 +22,6 @@ use Rattle.entries.proofs.Entry.refusal.Reads as entry-refusal
 use Rattle.entries.proofs.Entry.refusal.Kinds as entry-refusal-kinds
 use Rattle.entries.proofs.one.entry_of.Reads as entry-of
 use Rattle.entries.proofs.one.entry_of.Kinds as entry-of-kinds
-use Rattle.entries.proofs.row.at_or_above.Reads as at-or-above
-use Rattle.entries.proofs.row.at_or_above.Kinds as at-or-above-kinds
 
 pub read-entry-one : OneAnswer 1 read-entry-kinds.ps read-entry-kinds.r read-entry.Post
 read-entry-one κs given x y s t p q = p ∙ sym q
@@ -54,6 +52,3 @@ records-in-one κs given x y s t p q = p ∙ sym q
 
 pub entry-of-one : OneAnswer 1 entry-of-kinds.ps entry-of-kinds.r entry-of.Post
 entry-of-one κs given x y s t p q = p ∙ sym q
-
-pub at-or-above-one : OneAnswer 0 at-or-above-kinds.ps at-or-above-kinds.r at-or-above.Post
-at-or-above-one κs given x y s t p q = p ∙ sym q

@@ -14,7 +14,6 @@ pub use fit::fitting;
 pub use one::entry_at;
 pub use one::entry_of;
 pub use one::read_entry;
-pub use row::at_or_above;
 pub use row::entries_fault;
 pub use row::entries_good;
 pub use row::good_run;

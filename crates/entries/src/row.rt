@@ -2,7 +2,7 @@
 ghost use mathlib.Core.Path.{_≡_};
 ghost use Prim.Native.Nat.{suc, _≤_, min};
 ghost use Rattle.wire.specs.Numbers.{limit};
-ghost use Rattle.entries.specs.Entries.{atOrAbove, entryBehind, entriesGood, entriesFault};
+ghost use Rattle.entries.specs.Entries.{entryBehind, entriesGood, entriesFault};
 ghost use Rattle.entries.specs.Runs.{runTo, runOf};
 ghost use Rattle.entries.specs.Steps.{inside, floorOf, nextOf};
 use crate::GROUP;
@@ -18,17 +18,6 @@ use crate::record_size;
 use crate::records_in;
 use wire::Fixed;
 use wire::LARGEST;
-
-// Whether a group and an object number come at or above another two, compared by group, then object.
-pub fn at_or_above(last: u64, above: u64, group: u64, object: u64) -> bool
-    ensures { λ r. ⌜ r ≡ atOrAbove last above group object ⌝ }
-{
-    if group == last {
-        above <= object
-    } else {
-        last < group
-    }
-}
 
 // Whether a number is at or above a floor and none too large. One test: a number below the floor wraps past all that are left.
 fn within(floor: u64, number: u64) -> bool

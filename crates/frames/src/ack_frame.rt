@@ -190,33 +190,30 @@ fn is_alone(count: u64, counted: bool) -> bool
 }
 
 // Reads the one range of a frame of type 02 that has no other: most frames are so, and need no walk and no place to keep ranges.
-// It ends in one answer, so that the compiler keeps that in registers.
 fn read_one(ranges: &mut [u64], s: &[u8], at: usize, largest: u64, delay: u64) -> Ack
     ensures { λ r. ⌜ (r ≡ readRanges (now (s .entry)) at largest delay 0 false (now (ranges .entry)) .answer) × (now (ranges .exit) ≡ readRanges (now (s .entry)) at largest delay 0 false (now (ranges .entry)) .slice) ⌝ }
 {
-    let length = wire::read_number(s, at);
-    match length {
-        Number::Ends => Ack::Ends,
-        Number::Value {
-            value: len,
-            next,
-            shortest: _,
-        } => {
-            if largest < len {
-                Ack::BelowZero
-            } else if ranges.len() < 2 {
-                Ack::NoRoom
-            } else {
-                ranges[0] = largest - len;
-                ranges[1] = largest;
-                Ack::Frame {
-                    largest,
-                    delay,
-                    ranges: 1,
-                    used: next,
-                    tail: Tail::Nothing,
-                }
-            }
+    let Number::Value {
+        value: len,
+        next,
+        ..
+    } = wire::read_number(s, at)
+    else {
+        return Ack::Ends;
+    };
+    if largest < len {
+        Ack::BelowZero
+    } else if ranges.len() < 2 {
+        Ack::NoRoom
+    } else {
+        ranges[0] = largest - len;
+        ranges[1] = largest;
+        Ack::Frame {
+            largest,
+            delay,
+            ranges: 1,
+            used: next,
+            tail: Tail::Nothing,
         }
     }
 }

@@ -18,20 +18,21 @@ pub struct NewestOut {
 fn newest_out(answer: Newest) -> NewestOut
     ensures { λ r. ⌜ r ≡ newestOut answer ⌝ }
 {
+    let result = answer.refusal();
     match answer {
         Newest::Found { group, object } => NewestOut {
-            result: 0,
+            result,
             found: 1,
             group,
             object,
         },
         Newest::Nothing => NewestOut {
-            result: 0,
+            result,
             found: 0,
             group: 0,
             object: 0,
         },
-        Newest::Refused(result) => NewestOut {
+        Newest::Refused(_) => NewestOut {
             result,
             found: 0,
             group: 0,

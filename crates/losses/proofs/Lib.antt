@@ -6,4 +6,5 @@ pub mod Along
 pub mod Told
 pub mod Lists
 pub mod Answers
+pub mod Examples
 pub mod Only

@@ -3,6 +3,8 @@
 use mathlib.Core.Path.{refl, sym, _∙_}
 use denote.Ref.{now}
 use Rattle.wire.proofs.Only.{OneAnswer, OneBuffer}
+use Rattle.marks.proofs.add_range.Reads as add-range
+use Rattle.marks.proofs.add_range.Kinds as add-range-kinds
 use Rattle.marks.proofs.larger.Reads as larger
 use Rattle.marks.proofs.larger.Kinds as larger-kinds
 use Rattle.marks.proofs.next_marked.Reads as next-marked
@@ -23,3 +25,6 @@ count-marks-one κs given x y s t p q = p ∙ sym q
 
 pub list-marks-one : OneBuffer 2 list-marks-kinds.ps list-marks-kinds.r (λ κs s. now (s .0)) list-marks.Post
 list-marks-one κs given x y s t p q = (refl, p ∙ sym q)
+
+pub add-range-one : OneBuffer 1 add-range-kinds.ps add-range-kinds.r (λ κs s. now (s .0)) add-range.Post
+add-range-one κs given x y s t p q = (refl, p ∙ sym q)

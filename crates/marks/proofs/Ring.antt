@@ -9,10 +9,10 @@ use native.Mathlib.Omega.{arith}
 use borrow.Author.Tests.{le-leb, lt-leb, lt-ltb, le-ltb, eqb-true, eqb-false}
 use lib.Bits.{bitOr}
 use lib.Dec.{leb, ltb, eqb}
-use lib.ListN.{length, getD, set, length-set}
+use lib.ListN.{length, getD, set}
 use lib.Seq.{getD-set-same, getD-set-other}
 use Rattle.window.specs.Window.{isSet}
-use Rattle.marks.specs.Marks.{AddedRange, mark, firstIn, between}
+use Rattle.marks.specs.Marks.{mark, firstIn, between}
 use Rattle.marks.proofs.Listing.{first-hit, first-skip, first-none, first-least, first-most, first-before, first-has}
 use Rattle.marks.proofs.Bits.{set-or, set-run}
 
@@ -109,33 +109,17 @@ module _ (ws : List ℕ) (at to f : ℕ) (e : f ≡ firstIn (isSet (getD ws (at 
       let n : to - at - (64 - at % 64) ≡ to - (at + (64 - at % 64)) = omega arith in
       first-skip (mark ws) (64 - at % 64) (to - at) at (omega arith) (λ q k. passed q (omega arith)) ∙ ap (λ (j : ℕ). firstIn (mark ws) j (at + (64 - at % 64))) n
 
--- ---- a range, a word at a time
+-- ---- ranges that are empty, and that meet
 
 -- no number lies in it
-empty : (a b n : ℕ) → (a ≤ n → n < b → ⊥) → between a b n ≡ false
+pub empty : (a b n : ℕ) → (a ≤ n → n < b → ⊥) → between a b n ≡ false
 empty a b n f = between-same a b n 1 0 0 (λ p q. absurd (f p q)) (λ p q. absurd (omega arith))
 
-pub added-empty : (ws : List ℕ) (from to : ℕ) → to ≤ from → AddedRange ws ws from to
-added-empty ws from to h = record {
-  long = refl;
-  marks = λ sixteen floor low high n above below. sym (ap (λ (x : Bool). mark ws n || x) (empty from to n (λ p q. omega arith)) ∙ or-none (mark ws n));
-}
-
 -- two ranges that meet are one
-meet : (x : Bool) (a b c n : ℕ) → a ≤ b → b ≤ c → ((x || between a b n) || between b c n) ≡ (x || between a c n)
+pub meet : (x : Bool) (a b c n : ℕ) → a ≤ b → b ≤ c → ((x || between a b n) || between b c n) ≡ (x || between a c n)
 meet true a b c n h k = refl
 meet false a b c n h k =
     elim (decLe b n) [
       | yes l ↦ ap (λ (y : Bool). y || between b c n) (empty a b n (λ p q. omega arith)) ∙ between-same b c n a c n (λ p q. (omega arith, q)) (λ p q. (l, q))
       | no l ↦ ap (λ (y : Bool). between a b n || y) (empty b c n (λ p q. l p)) ∙ or-none (between a b n) ∙ between-same a b n a c n (λ p q. (p, omega arith)) (λ p q. (p, omega arith))
     ]
-
--- at lies in the range, and its numbers below at are marked
-pub added-more : (ws now : List ℕ) (from to at len : ℕ) → length now ≡ length ws → from ≤ at → at + len ≤ to → at % 64 + len ≤ 64 → AddedRange ws now from at
-    → AddedRange ws (set now (at / 64 % 16) (bitOr (getD now (at / 64 % 16) 0) ((2 ^ 64 - 1) / 2 ^ (64 - len) * 2 ^ (at % 64) % 2 ^ 64))) from (at + len)
-added-more ws now from to at len long start end one r = record {
-  long = length-set now (at / 64 % 16) (bitOr (getD now (at / 64 % 16) 0) ((2 ^ 64 - 1) / 2 ^ (64 - len) * 2 ^ (at % 64) % 2 ^ 64)) ∙ long;
-  marks = λ sixteen floor low high n above below.
-      run-marked now at len floor n (long ∙ sixteen) one (omega arith) high above below
-      ∙ ap (λ (x : Bool). x || between at (at + len) n) (r .marks sixteen floor low (omega arith) n above below) ∙ meet (mark ws n) from at (at + len) n start (omega arith);
-}

@@ -1,12 +1,11 @@
 -- Marks of numbers in a ring of sixteen words, and the numbers of which something holds, rising.
-use Prim.Native.Nat.{ℕ, zero, suc, _+_, _-_, _*_, _/_, _%_, _≤_, _<_}
-use mathlib.Core.Path.{_≡_}
+use Prim.Native.Nat.{ℕ, zero, suc, _+_, _-_, _*_, _/_, _%_}
 use mathlib.Core.Bool.{Bool, true, false, _&&_, _||_}
 use mathlib.Core.List.{List, [], _∷_}
 use lib.Dec.{leb, ltb}
-use lib.ListN.{length, getD}
+use lib.ListN.{getD, set}
 use Rattle.wire.specs.Bytes.{pick}
-use Rattle.window.specs.Window.{isSet}
+use Rattle.window.specs.Window.{isSet, withBit}
 
 -- number n stands at bit n % 64 of word n / 64 % 16
 abbrev pub mark : List ℕ → ℕ → Bool
@@ -49,7 +48,10 @@ noneIn p (suc k) n = pick (p n) false (noneIn p k (suc n))
 abbrev pub between : ℕ → ℕ → ℕ → Bool
 between from to n = leb from n && ltb n to
 
--- the words ws with the numbers of a range marked: said of the numbers of any window of 1,024 that holds the range
-pub record AddedRange (ws next : List ℕ) (from to : ℕ) : Type 0 where
-  pub long : length next ≡ length ws
-  pub marks : length ws ≡ 16 → (floor : ℕ) → floor ≤ from → to ≤ floor + 1024 → (n : ℕ) → floor ≤ n → n < floor + 1024 → mark next n ≡ (mark ws n || between from to n)
+-- the words with number n marked, and with k numbers from n on
+abbrev pub withMark : List ℕ → ℕ → List ℕ
+withMark ws n = set ws (n / 64 % 16) (withBit (getD ws (n / 64 % 16) 0) (n % 64))
+
+unfoldable pub withRange : List ℕ → ℕ → ℕ → List ℕ
+withRange ws zero n = ws
+withRange ws (suc k) n = withRange (withMark ws n) k (suc n)

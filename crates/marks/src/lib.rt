@@ -5,7 +5,7 @@ ghost use Prim.Native.Nat.{_+_, _-_, _≤_, _<_};
 ghost use lib.ListN.{length, take};
 ghost use Rattle.wire.specs.Bytes.{splice};
 ghost use Rattle.window.specs.Window.{isSet};
-ghost use Rattle.marks.specs.Marks.{AddedRange, mark, firstIn, listed};
+ghost use Rattle.marks.specs.Marks.{mark, firstIn, listed, withRange};
 
 // The lesser of two numbers.
 fn lesser(a: u64, b: u64) -> u64
@@ -30,7 +30,7 @@ pub fn larger(a: u64, b: u64) -> u64
 
 // Marks the numbers from `from` on and below `to`, word by word.
 pub fn add_range(words: &mut [u64; 16], from: u64, to: u64)
-    ensures { λ r. ⌜ AddedRange (now (words .entry)) (now (words .exit)) from to ⌝ }
+    ensures { λ r. ⌜ now (words .exit) ≡ withRange (now (words .entry)) (to - from) from ⌝ }
 {
     if to <= from {
         return;

@@ -20,7 +20,7 @@ use Rattle.totals.specs.Adding.{brings, with, added}
 use Rattle.totals.specs.Files.{lengthSize, lengthAt, reportAt, behind, Cut, Reports, EndsEarly, before, cutFrom, cut, start, withLong, nothing, stepOf, takenFrom, taken}
 use Rattle.page.specs.Page.{lines, early, page, pageOf, printed}
 use Rattle.totals.specs.Sums.{addedAll}
-use Rattle.page.specs.Pieces.{Place, turn, turns, opened, file, PageInPieces}
+use Rattle.page.specs.Pieces.{Place, turn, turns, opened, LeftShort, file, PageInPieces}
 use Rattle.totals.proofs.Summing.{brings-long, adds-up}
 use Rattle.page.proofs.Printing.{printed-skipping, printed-left, printed-whole}
 use Rattle.totals.proofs.Stepping.{step-skip, step-ends, step-long, step-part, step-whole, step-within, step-empty, taken-stop, taken-more}
@@ -223,6 +223,31 @@ module _ (whole rest : List ℕ) where
 -- ---- the end of the file
 
 module _ (st : Standing) (s : List ℕ) where
+  -- where nothing is to be skipped and no step takes anything, a length or a report is cut
+  cut-short : st .skip ≡ 0 → stepOf st s .used ≡ 0 → (length s < lengthSize + lengthAt s) × (length s < lengthSize + longest)
+  cut-short z e =
+      let y : st .skip ≤ 0 = omega arith in
+      elim (decLe lengthSize (length s)) [
+        | no h ↦ (omega (arith, lt-of-not-le h), omega (arith, lt-of-not-le h))
+        | yes h ↦
+            elim (decLe (lengthAt s) longest) [
+              | no l ↦ let f = rw (step-long st s y h (lt-of-not-le l)) at e in absurd (omega arith)
+              | yes l ↦
+                  elim (decLe (lengthSize + lengthAt s) (length s)) [
+                    | yes k ↦ let f = rw (step-whole st s y h l k) at e in absurd (omega arith)
+                    | no k ↦ (lt-of-not-le k, omega (arith, lt-of-not-le k))
+                  ]
+            ]
+      ]
+
+  -- while bytes are skipped, none is left
+  stuck-short : stepOf st s .used ≡ 0 → length s < lengthSize + longest
+  stuck-short e =
+      elim (decLe 1 (st .skip)) [
+        | yes p ↦ let f = rw (step-skip st s p) at e in omega arith
+        | no p ↦ cut-short (omega (arith, lt-of-not-le p)) e .1
+      ]
+
   finish-end : stepOf st s .used ≡ 0 → finish st s ≡ printed st (length s)
   finish-end e =
       elim (decLe 1 (st .skip)) [
@@ -237,25 +262,9 @@ module _ (st : Standing) (s : List ℕ) where
                   let n : length s ≡ 0 = omega (arith, lt-of-not-le q) in
                   finish-plain st s z ∙ ap (pageFrom (st .totals)) (cut-none s n) ∙ sym (printed-whole st (length s) z n)
               | yes q ↦
-                  finish-plain st s z ∙ ap (pageFrom (st .totals)) (cut-early s q (cut-short z)) ∙ sym (printed-left st (length s) (λ n. omega arith))
+                  finish-plain st s z ∙ ap (pageFrom (st .totals)) (cut-early s q (cut-short z e .0)) ∙ sym (printed-left st (length s) (λ n. omega arith))
             ]
       ]
-    where
-      cut-short : st .skip ≡ 0 → length s < lengthSize + lengthAt s
-      cut-short z =
-          let y : st .skip ≤ 0 = omega arith in
-          elim (decLe lengthSize (length s)) [
-            | no h ↦ omega (arith, lt-of-not-le h)
-            | yes h ↦
-                elim (decLe (lengthAt s) longest) [
-                  | no l ↦ let f = rw (step-long st s y h (lt-of-not-le l)) at e in absurd (omega arith)
-                  | yes l ↦
-                      elim (decLe (lengthSize + lengthAt s) (length s)) [
-                        | yes k ↦ let f = rw (step-whole st s y h l k) at e in absurd (omega arith)
-                        | no k ↦ lt-of-not-le k
-                      ]
-                ]
-          ]
 
 -- ---- all pieces
 
@@ -266,6 +275,11 @@ in-turns (bytes ∷ more) p e =
     let whole = p .left ++ bytes in
     in-turns more (turn p bytes) (stuck-from whole [] (length whole) (p .standing) 0 (omega arith))
     ∙ sym (rw (← append-assoc (p .left) bytes (file more)) (finish-from whole (file more) (length whole) (p .standing) 0))
+
+pub left-short : LeftShort
+left-short p bytes =
+    let whole = p .left ++ bytes in
+    stuck-short (turn p bytes .standing) (turn p bytes .left) (stuck-from whole [] (length whole) (p .standing) 0 (omega arith))
 
 start-skip : start .skip ≡ 0
 unfolding start

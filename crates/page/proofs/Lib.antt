@@ -3,3 +3,4 @@ pub mod Printing
 pub mod Cutting
 pub mod Only
 pub mod Settled
+pub mod Fitting

@@ -6,15 +6,16 @@ use mathlib.Core.Bool.{Bool, true, false}
 use mathlib.Core.List.{List, [], _++_}
 use native.Mathlib.Nat.{add-zero}
 use native.Mathlib.Omega.{arith}
-use borrow.Author.Tests.{le-leb, lt-leb, eq-eqb, ne-eqb, leb-true}
+use borrow.Author.Tests.{eq-eqb, ne-eqb, leb-true}
 use lib.Dec.{leb}
-use lib.ListN.{length, getD, length-append, take-append-drop}
+use lib.ListN.{length, getD, take, drop, length-append, take-append-drop}
+use lib.Seq.{take-at}
 use Rattle.wire.specs.Bytes.{pick, splice}
 use Rattle.wire.specs.Fields.{placed}
 use Rattle.wire.specs.declared.Put.{Put}
 use Rattle.wire.specs.declared.Put.the-variants.{Done, NoRoom}
 use Rattle.wire.proofs.Bytes.{splice-splice}
-use Rattle.wire.proofs.Writing.{placed-yes}
+use Rattle.wire.proofs.Writing.{placed-no, placed-yes}
 use Rattle.totals.specs.declared.Totals.{Totals}
 use Rattle.totals.specs.declared.Standing.{Standing}
 use Rattle.totals.specs.Totals.{places}
@@ -93,6 +94,10 @@ module _ (t : Totals) (xs : List ℕ) where
 
 -- ---- the page
 
+-- what was laid out at the start of a buffer is its first bytes
+pub laid-out : (us xs ys : List ℕ) (n : ℕ) → n ≡ length us → ys ≡ splice xs 0 us → take n ys ≡ us
+laid-out us xs ys n e f = rw f (take-at us (drop (0 + length us) xs) n (sym e))
+
 module _ (st : Standing) (left : ℕ) where
   pub printed-skipping : (st .skip ≡ 0 → ⊥) → printed st left ≡ early
   unfolding printed
@@ -107,26 +112,24 @@ module _ (st : Standing) (left : ℕ) where
   printed-whole e f = rw (eq-eqb (st .skip + left) 0 (omega arith))
 
   module _ (xs : List ℕ) where
-    pub page-no : length xs < longestPage → (NoRoom ≡ pagePlaced st left xs) × (xs ≡ pageWritten st left xs)
-    page-no h = (rw (lt-leb longestPage (length xs) h), rw (lt-leb longestPage (length xs) h))
+    pub page-no : length xs < length (printed st left) → (NoRoom ≡ pagePlaced st left xs) × (xs ≡ pageWritten st left xs)
+    page-no h = placed-no xs 0 (printed st left) (omega arith)
 
     -- us is the page, and ys the buffer with it
-    pub page-yes : (us : List ℕ) {ys : List ℕ} {r : Put} → longestPage ≤ length xs → printed st left ≡ us → length us ≤ longestPage
-        → r ≡ Done (length us) → ys ≡ splice xs 0 us → (r ≡ pagePlaced st left xs) × (ys ≡ pageWritten st left xs)
-    page-yes us h e l f g =
+    pub page-yes : (us : List ℕ) {ys : List ℕ} {next : ℕ} → us ≡ printed st left → length us ≤ length xs
+        → next ≡ 0 + length us → ys ≡ splice xs 0 us → (Done next ≡ pagePlaced st left xs) × (ys ≡ pageWritten st left xs)
+    page-yes us e h n g =
         let y = placed-yes xs 0 us (omega arith) in
-        let n : 0 + length us ≡ length us = omega arith in
-        (rw (le-leb longestPage (length xs) h, e, f) (rw n at (y .0)), rw (le-leb longestPage (length xs) h, e, g) (y .1))
+        (rw (n, sym e) (y .0), rw (g, sym e) (y .1))
 
     -- the page lies within the buffer
     pub page-within : {r : Put} {n : ℕ} → r ≡ pagePlaced st left xs → r ≡ Done n → n ≤ length xs
     unfolding placed
-    page-within {r} {n} e t = go (leb longestPage (length xs)) (leb (0 + length us) (length xs)) refl (sym e ∙ t)
+    page-within {r} {n} e t = go (leb (0 + length us) (length xs)) refl (sym e ∙ t)
       where
         us : List ℕ
         us = printed st left
 
-        go : (a b : Bool) → leb (0 + length us) (length xs) ≡ b → pick a (pick b (Done (0 + length us)) NoRoom) NoRoom ≡ Done n → n ≤ length xs
-        go true true l q = let f : 0 + length us ≡ n = cc in omega (arith, leb-true (0 + length us) (length xs) l)
-        go true false l q = let z : _≡_ {A = ℕ} 0 1 = cc in absurd (omega arith)
-        go false b l q = let z : _≡_ {A = ℕ} 0 1 = cc in absurd (omega arith)
+        go : (b : Bool) → leb (0 + length us) (length xs) ≡ b → pick b (Done (0 + length us)) NoRoom ≡ Done n → n ≤ length xs
+        go true l q = let f : 0 + length us ≡ n = cc in omega (arith, leb-true (0 + length us) (length xs) l)
+        go false l q = let z : _≡_ {A = ℕ} 0 1 = cc in absurd (omega arith)

@@ -1,6 +1,6 @@
 -- The page: "It prints reports accepted, reports refused for each number that occurs, rising, the four summary totals and the
 -- entry count by status".
-use Prim.Native.Nat.{ℕ, zero, suc, _+_, _*_}
+use Prim.Native.Nat.{ℕ, zero, suc, _+_, _*_, _≤_}
 use mathlib.Core.List.{List, [], _∷_, _++_}
 use mathlib.Core.Bool.{Bool, true}
 use lib.Dec.{eqb, leb, ltb}
@@ -8,11 +8,11 @@ use lib.ListN.{length, getD}
 use Rattle.wire.specs.Bytes.{pick}
 use Rattle.wire.specs.Fields.{placed, written}
 use Rattle.wire.specs.declared.Put.{Put}
-use Rattle.wire.specs.declared.Put.the-variants.{Done, NoRoom}
 use Rattle.decimal.specs.Decimal.{decimal}
 use Rattle.totals.specs.declared.Totals.{Totals}
 use Rattle.totals.specs.declared.Standing.{Standing}
 use Rattle.totals.specs.Totals.{places, tooLong, atTotal, atReceived, atLate, atLost, totalsOf}
+use Rattle.totals.specs.Adding.{Held}
 use Rattle.totals.specs.Files.{Cut, Reports, EndsEarly, cut}
 
 -- ---- the words, byte by byte
@@ -125,9 +125,13 @@ longestLine = 47
 abbrev pub longestPage : ℕ
 longestPage = longestLine * places
 
--- the page is written where there is room for the longest
+-- 9: "the smallest permitted output does not fit the room"; the page is one output, and goes by its own length
 abbrev pub pagePlaced : Standing → ℕ → List ℕ → Put
-pagePlaced st left xs = pick (leb longestPage (length xs)) (placed xs 0 (printed st left)) NoRoom
+pagePlaced st left xs = placed xs 0 (printed st left)
 
 abbrev pub pageWritten : Standing → ℕ → List ℕ → List ℕ
-pageWritten st left xs = pick (leb longestPage (length xs)) (written xs 0 (printed st left)) xs
+pageWritten st left xs = written xs 0 (printed st left)
+
+-- so many bytes always suffice
+abbrev pub PageFits : Type 0
+PageFits = (st : Standing) (left : ℕ) → Held (st .totals) → length (printed st left) ≤ longestPage

@@ -7,7 +7,7 @@ ghost use lib.ListN.{length};
 ghost use Rattle.wire.specs.Bytes.{splice};
 ghost use Rattle.decimal.specs.Decimal.{decimal};
 ghost use Rattle.totals.specs.Totals.{places};
-ghost use Rattle.page.specs.Page.{nameOf, line, isShown, lines, early, longestLine, longestPage, pagePlaced, pageWritten};
+ghost use Rattle.page.specs.Page.{nameOf, line, isShown, lines, early, printed, longestLine, longestPage, pagePlaced, pageWritten};
 use totals::AT_LATE;
 use totals::AT_LOST;
 use totals::AT_RECEIVED;
@@ -19,6 +19,9 @@ use wire::Put;
 
 // How many bytes a line takes at most: `entries not received `, twenty digits, and ` full` with the line's end.
 const LINE: usize = 47;
+
+// Room for the longest page.
+const LONGEST_PAGE: usize = LINE * PLACES;
 
 // Writes the text at at; answers the place after it.
 fn put_text(buf: &mut [u8], at: usize, text: &[u8]) -> usize
@@ -113,22 +116,18 @@ fn put_lines(buf: &mut [u8], totals: Totals) -> usize
 }
 
 // Writes the page of a file that ends early.
-fn put_early(buf: &mut [u8]) -> Put
+fn put_early(buf: &mut [u8]) -> usize
     requires { ⌜ longestPage ≤ length (now buf) ⌝ }
-    ensures { λ r. ⌜ (r ≡ Put.Done (length early)) × (now (buf .exit) ≡ splice (now (buf .entry)) 0 early) ⌝ }
+    ensures { λ r. ⌜ (r ≡ length early) × (now (buf .exit) ≡ splice (now (buf .entry)) 0 early) ⌝ }
 {
-    let next = put_text(buf, 0, b"2\n");
-    Put::Done { next }
+    put_text(buf, 0, b"2\n")
 }
 
-// Writes the page at the start of buf, where there is room for the longest.
-// left is how many bytes of the file are left; where some are, or some are still to be skipped, it ended early.
-pub fn put_page(buf: &mut [u8], standing: Standing, left: usize) -> Put
-    ensures { λ r. ⌜ (r ≡ pagePlaced standing left (now (buf .entry))) × (now (buf .exit) ≡ pageWritten standing left (now (buf .entry))) ⌝ }
+// Writes the page at the start of buf, which holds any; answers its length.
+fn lay_out(buf: &mut [u8], standing: Standing, left: usize) -> usize
+    requires { ⌜ longestPage ≤ length (now buf) ⌝ }
+    ensures { λ r. ⌜ (r ≡ length (printed standing left)) × (now (buf .exit) ≡ splice (now (buf .entry)) 0 (printed standing left)) × (r ≤ longestPage) ⌝ }
 {
-    if buf.len() < LINE * PLACES {
-        return Put::NoRoom;
-    }
     let skip = standing.skip;
     if skip != 0 {
         return put_early(buf);
@@ -137,6 +136,19 @@ pub fn put_page(buf: &mut [u8], standing: Standing, left: usize) -> Put
         return put_early(buf);
     }
     let totals = standing.totals;
-    let next = put_lines(buf, totals);
+    put_lines(buf, totals)
+}
+
+// Writes the page at the start of buf, where there is room for it. It is laid out elsewhere first: its length is known before a byte is stored.
+// left is how many bytes of the file are left; where some are, or some are still to be skipped, it ended early.
+pub fn put_page(buf: &mut [u8], standing: Standing, left: usize) -> Put
+    ensures { λ r. ⌜ (r ≡ pagePlaced standing left (now (buf .entry))) × (now (buf .exit) ≡ pageWritten standing left (now (buf .entry))) ⌝ }
+{
+    let mut page = [0u8; LONGEST_PAGE];
+    let length = lay_out(&mut page, standing, left);
+    if buf.len() < length {
+        return Put::NoRoom;
+    }
+    let next = put_text(buf, 0, &page[..length]);
     Put::Done { next }
 }

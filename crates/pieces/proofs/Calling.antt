@@ -1,6 +1,6 @@
--- The calls: 1 and 9 come first, and what the bytes of a part do is what the call answers and leaves.
+-- The calls: 1, 9 and the refusal that stands come first, and what the bytes of a part do is what the call answers and leaves.
 -- Assumes nothing.
-use Prim.Native.Nat.{ℕ, _/_, _≤_, _<_}
+use Prim.Native.Nat.{ℕ, zero, suc, _/_, _≤_, _<_}
 use mathlib.Core.Path.{_≡_, refl, sym, ap, ap₂, _∙_}
 use mathlib.Core.Bool.{true, false}
 use mathlib.Core.List.{List}
@@ -12,14 +12,14 @@ use Rattle.wire.specs.Bytes.{splice}
 use Rattle.entries.specs.Profiles.{recordSize}
 use Rattle.entries.specs.declared.Profile.{Profile}
 use Rattle.report.specs.declared.Report.{Report}
-use Rattle.uncut.specs.State.{State, reportAt, atEnd}
+use Rattle.uncut.specs.State.{State, standing, reportAt, atEnd}
 use Rattle.uncut.specs.Step.{after, delivered}
 use Rattle.uncut.specs.Cutting.{taking}
 use Rattle.pieces.specs.Record.{Moved, profileIn, marksAt, standIn, stateIn, stateOf, wordsOf}
 use Rattle.pieces.specs.declared.Marks.{Marks}
 use Rattle.pieces.specs.Fitness.{consistent}
 use Rattle.pieces.specs.Serving.{Sits, Served}
-use Rattle.pieces.specs.Calls.{refusedReport, refusedAs, answerOf, takeRefusal, takenOf, stateAfter, givenOf, takeAnswer, takeAfter, takeBytes, endAnswer, endAfter}
+use Rattle.pieces.specs.Calls.{refusedReport, refusedAs, answerOf, takeRefusal, takenOf, stateAfter, givenOf, takeAnswer, takeAfter, takeBytes, endRefusal, endAnswer, endAfter}
 use Rattle.pieces.specs.declared.Taken.{Taken}
 use Rattle.pieces.proofs.Fits.{sits-consistent}
 use Rattle.uncut.proofs.Rows.{size-pos}
@@ -42,13 +42,18 @@ module _ (w : List ℕ) where
     take-one part xs a f = rw (one (length xs), f) (refl, (refl, refl))
 
     pub end-one : (a : Report) → a ≡ refusedReport 1 → Said w a w
-    unfolding endAnswer endAfter
+    unfolding endRefusal endAnswer endAfter
     end-one a f = rw (e, f) (refl, refl)
 
   module _ (e : consistent w ≡ true) where
-    pub end-said : (st : State) (a : Report) (w' : List ℕ) → st ≡ atEnd (stateOf w) → a ≡ reportAt st → w' ≡ wordsOf (profileIn w) st → Said w a w'
-    unfolding endAnswer endAfter
-    end-said st a w' f g h = rw e (g ∙ ap reportAt f, h ∙ ap (wordsOf (profileIn w)) f)
+    pub end-stands : (n : ℕ) → n ≡ standing (stateOf w) → (n ≡ 0 → ⊥) → (a : Report) → a ≡ refusedReport n → Said w a w
+    unfolding endRefusal endAnswer endAfter
+    end-stands zero f z a g = absurd (z refl)
+    end-stands (suc n) f z a g = rw (e, ← f, g) (refl, refl)
+
+    pub end-said : (n : ℕ) → n ≡ standing (stateOf w) → n ≡ 0 → (st : State) (a : Report) (w' : List ℕ) → st ≡ atEnd (stateOf w) → a ≡ reportAt st → w' ≡ wordsOf (profileIn w) st → Said w a w'
+    unfolding endRefusal endAnswer endAfter
+    end-said n q z st a w' f g h = rw (e, ← q, z) (g ∙ ap reportAt f, h ∙ ap (wordsOf (profileIn w)) f)
 
     nine : (room : ℕ) → room < recordSize (profileIn w) → takeRefusal w room ≡ 9
     unfolding takeRefusal
@@ -58,20 +63,25 @@ module _ (w : List ℕ) where
     unfolding takeAnswer takeAfter takeBytes
     take-nine part xs h a f = rw (nine (length xs) h, f) (refl, (refl, refl))
 
-    none : (room : ℕ) → recordSize (profileIn w) ≤ room → takeRefusal w room ≡ 0
+    stands : (room : ℕ) → recordSize (profileIn w) ≤ room → takeRefusal w room ≡ standing (stateOf w)
     unfolding takeRefusal
-    none room h = rw (e, le-leb (recordSize (profileIn w)) room h)
+    stands room h = rw (e, le-leb (recordSize (profileIn w)) room h)
 
-    pub take-served : (part xs : List ℕ) → recordSize (profileIn w) ≤ length xs → (m : Moved) (xs' w' : List ℕ) (a : Taken) → Served (profileIn w) (stateOf w) part xs m xs'
+    pub take-stands : (part xs : List ℕ) → recordSize (profileIn w) ≤ length xs → (n : ℕ) → n ≡ standing (stateOf w) → (n ≡ 0 → ⊥) → (a : Taken) → a ≡ refusedAs n → Took w part xs a w xs
+    unfolding takeAnswer takeAfter takeBytes
+    take-stands part xs h zero f z a g = absurd (z refl)
+    take-stands part xs h (suc n) f z a g = rw (stands (length xs) h, ← f, g) (refl, (refl, refl))
+
+    pub take-served : (part xs : List ℕ) → recordSize (profileIn w) ≤ length xs → (n : ℕ) → n ≡ standing (stateOf w) → n ≡ 0 → (m : Moved) (xs' w' : List ℕ) (a : Taken) → Served (profileIn w) (stateOf w) part xs m xs'
         → m .taken ≡ taking (profileIn w) (length xs) (stateOf w) part → w' ≡ wordsOf (profileIn w) (stateIn (m .now)) → a ≡ answerOf (stateIn (m .now)) (m .taken) (m .records) → Took w part xs a w' xs'
     unfolding takeAnswer takeAfter takeBytes
-    take-served part xs h m xs' w' a s t f g =
+    take-served part xs h o q z m xs' w' a s t f g =
         let k : takenOf w part (length xs) ≡ take (m .taken) part = ap (λ (n : ℕ). take n part) (sym t) in
         let b : stateAfter w part (length xs) ≡ stateIn (m .now) = ap (after (profileIn w) (stateOf w)) k ∙ s .went .comes in
         let d : givenOf w part (length xs) ≡ delivered (profileIn w) (stateOf w) (take (m .taken) part) = ap (delivered (profileIn w) (stateOf w)) k in
         let l : length (takenOf w part (length xs)) ≡ m .taken = ap length k ∙ length-take-le (m .taken) part (s .went .within) in
         let n : length (givenOf w part (length xs)) / recordSize (profileIn w) ≡ m .records = ap (λ (x : List ℕ). length x / recordSize (profileIn w)) d ∙ ap (λ (x : ℕ). x / recordSize (profileIn w)) (sym (s .many)) ∙ mul-div-cancel-left (m .records) (size-pos (profileIn w)) in
-        rw (none (length xs) h) (
+        rw (stands (length xs) h, ← q, z) (
           g ∙ ap₂ (λ (x : State) (y : ℕ). answerOf x y (m .records)) (sym b) (sym l) ∙ ap (answerOf (stateAfter w part (length xs)) (length (takenOf w part (length xs)))) (sym n),
           (f ∙ ap (wordsOf (profileIn w)) (sym b), s .bytes ∙ ap (splice xs 0) (sym d)),
         )

@@ -1,6 +1,6 @@
 -- The rows of the refusal table: from how a refusal comes to stand, and from what passes.
 -- Assumes nothing.
-use Prim.Native.Nat.{ℕ, zero, suc, _≤_, _<_}
+use Prim.Native.Nat.{ℕ, zero, suc, _/_, _≤_, _<_}
 use mathlib.Core.Path.{_≡_, refl, sym, ap, _∙_}
 use mathlib.Core.Logic.{_↔_, _⊎_, inl, inr, ⊎-elim}
 use mathlib.Core.Bool.{Bool, true, false}
@@ -8,6 +8,7 @@ use mathlib.Core.List.{List, [], _∷_}
 use native.Mathlib.Omega.{arith}
 use borrow.Author.Tests.{eqb-true, eqb-false, le-leb, lt-leb}
 use lib.Dec.{eqb}
+use lib.ListN.{length}
 use Rattle.wire.specs.Bytes.{pick}
 use Rattle.wire.specs.Exactly.{OneOf}
 use Rattle.wire.proofs.Lengths.{split}
@@ -16,11 +17,13 @@ use Rattle.entries.specs.declared.Profile.{Profile}
 use Rattle.entries.specs.declared.Profile.the-variants.{One, Two}
 use Rattle.report.specs.Header.{judgeField}
 use Rattle.report.proofs.Places.{place-judged}
-use Rattle.uncut.specs.State.{State, Numbers, Records, Counting, Refused, Accepted, standing, atEnd}
+use Rattle.uncut.specs.State.{State, Numbers, Records, Counting, Refused, Accepted, standing, reportAt, atEnd}
 use Rattle.uncut.specs.Step.{after}
 use Rattle.pieces.specs.Record.{profileIn, stateOf}
 use Rattle.pieces.specs.Fitness.{fit, consistent}
-use Rattle.pieces.specs.Calls.{openRefusal, takeRefusal, takenOf, stateAfter, takeAnswer, endAnswer}
+use Rattle.uncut.proofs.Cuts.{closed-after}
+use Rattle.uncut.proofs.All.{stands-at-the-end, stands-closed}
+use Rattle.pieces.specs.Calls.{unlessRefused, refusedReport, openRefusal, takeRefusal, takenOf, stateAfter, givenOf, answerOf, refusedAs, takeAnswer, endRefusal, endAnswer}
 use Rattle.pieces.specs.Exactly.{Consistent, OpenRows, Faulty, TooMany, AllCame, TakeRows, Missing, EndRows, Exactly}
 use Rattle.pieces.proofs.Coming.{came, stood, faulty, too-many}
 use Rattle.pieces.proofs.Passing.{fit-fact, consistent-exactly}
@@ -172,6 +175,12 @@ module _ (w part : List ℕ) (room : ℕ) where
           ⊎-elim (λ q. here k q) (⊎-elim (λ q. from-field k (judgeField (profileIn w) (q .ns) (q .v) (q .shortest)) (q .brings) (judge-one (profileIn w) (q .ns) (q .v) (q .shortest))) (λ q. inr (inr (inr (inr (inr (inl (q .1)))))))) (came (profileIn w) (stateOf w) (takenOf w part room) k e)
       go (Accepted ns) e = inl refl
 
+  -- a refusal that stands is what the bytes come to: they change nothing
+  brought : (n : ℕ) → standing (stateOf w) ≡ n
+      → unlessRefused n (answerOf (stateAfter w part room) (length (takenOf w part room)) (length (givenOf w part room) / recordSize (profileIn w))) (refusedAs n) .result ≡ standing (stateAfter w part room)
+  brought zero q = refl
+  brought (suc n) q = sym (ap standing (closed-after (profileIn w) (stateOf w) (takenOf w part room) (stands-closed (stateOf w) (λ z. omega arith)) .0) ∙ q)
+
   part-rows : TakeRows w part room (takeAnswer w part room .result)
   unfolding takeAnswer takeRefusal
   part-rows = go (consistent w) refl
@@ -183,7 +192,7 @@ module _ (w part : List ℕ) (room : ℕ) where
       go false e = rw e (at-one (λ h. no-true (sym e ∙ consistent-exactly w .1 h)))
       go true e =
           split (recordSize (profileIn w)) room
-          (λ l. rw (e, le-leb (recordSize (profileIn w)) room l) (at-served (right e) l (after-one (right e))))
+          (λ l. rw (e, le-leb (recordSize (profileIn w)) room l, brought (standing (stateOf w)) refl) (at-served (right e) l (after-one (right e))))
           (λ l. rw (e, lt-leb (recordSize (profileIn w)) room l) (at-nine (right e) l))
 
 -- ---- the end
@@ -238,13 +247,17 @@ module _ (w : List ℕ) where
     others = ends-one (stateOf w) f;
   }
 
+  said : (n : ℕ) → standing (stateOf w) ≡ n → unlessRefused n (reportAt (atEnd (stateOf w))) (refusedReport n) .refusal ≡ standing (atEnd (stateOf w))
+  said zero q = refl
+  said (suc n) q = sym (stands-at-the-end (stateOf w) (λ z. omega arith) ∙ q)
+
   end-rows : EndRows w (endAnswer w .refusal)
-  unfolding endAnswer
+  unfolding endAnswer endRefusal
   end-rows = go (consistent w) refl
     where
       go : (b : Bool) → consistent w ≡ b → EndRows w (endAnswer w .refusal)
       go false e = rw e (end-wrong (λ h. no-true (sym e ∙ consistent-exactly w .1 h)))
-      go true e = let k = consistent-kept w e in rw e (end-right (consistent-exactly w .0 e) (k .fits) (kept-end (profileIn w) (stateOf w) k .fits))
+      go true e = let k = consistent-kept w e in rw (e, said (standing (stateOf w)) refl) (end-right (consistent-exactly w .0 e) (k .fits) (kept-end (profileIn w) (stateOf w) k .fits))
 
 -- ---- opening
 

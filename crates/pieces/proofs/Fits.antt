@@ -1,29 +1,33 @@
 -- The tests of a record's fitness, and what a record that passes them has.
 -- Assumes nothing.
-use Prim.Native.Nat.{ℕ, zero, suc, _+_, _≤_, _<_}
+use Prim.Native.Nat.{ℕ, zero, suc, _≤_, _<_, zero-le}
 use mathlib.Core.Path.{_≡_, refl, sym, ap, _∙_}
 use mathlib.Core.Bool.{Bool, true, false, _&&_}
-use mathlib.Core.List.{List}
+use mathlib.Core.List.{List, []}
 use native.Mathlib.Omega.{arith}
-use borrow.Author.Tests.{le-leb, lt-leb, lt-ltb, le-ltb, leb-true, ltb-true}
-use lib.Dec.{leb, ltb}
-use lib.ListN.{length, getD, take}
-use lib.Seq.{length-take-le}
+use borrow.Author.Tests.{le-leb, lt-leb, ne-eqb, leb-true, ltb-true, eqb-true}
+use lib.Dec.{eqb, leb, ltb}
+use lib.ListN.{length, getD, take, drop, List·getD-eq-default}
+use lib.Seq.{length-take-le, split-at}
 use Rattle.wire.specs.Bytes.{pick}
-use Rattle.wire.specs.Numbers.{limit, allSmall, encodeAll, lengthOf, readNumber}
+use Rattle.wire.specs.Numbers.{allSmall, readNumber}
 use Rattle.wire.specs.declared.Number.{Number}
 use Rattle.wire.specs.declared.Number.the-variants.{Value, Ends}
-use Rattle.wire.specs.declared.Length.the-variants.{Bytes, TooLarge}
+use Rattle.wire.proofs.Lengths.{split}
 use Rattle.entries.specs.Limits.{mostEntries}
 use Rattle.entries.specs.Profiles.{recordSize, mostMetrics, numberOf, Other}
 use Rattle.entries.specs.declared.Profile.{Profile}
 use Rattle.entries.specs.declared.Profile.the-variants.{One, Two}
 use Rattle.entries.proofs.Profiles.{Which, known, other, which, of-known, of-other}
-use Rattle.report.specs.Layout.{atMetrics}
-use Rattle.report.specs.Header.{wantedOf}
+use Rattle.report.specs.Layout.{atMetrics, fixedNumbers}
+use Rattle.report.specs.Header.{firstFault, wantedOf, countOf}
+use Rattle.report.proofs.Following.{fault-at}
+use Rattle.report.proofs.Places.{metrics-small}
+use Rattle.report.proofs.Forth.{count-few}
 use Rattle.uncut.specs.State.{State, Numbers, Records, Counting, Refused, Accepted}
-use Rattle.pieces.specs.Record.{Stand, stateIn, stateOf, standAt, profileOf, profileIn}
-use Rattle.pieces.specs.Fitness.{numbersFit, isEnds, canStand, fieldFit, rowsFit, fit, standFit, consistent}
+use Rattle.uncut.proofs.Rows.{size-pos}
+use Rattle.pieces.specs.Record.{Stand, stateAs, stateIn, stateOf, standAt, profileOf, profileIn}
+use Rattle.pieces.specs.Fitness.{numbersFit, isEnds, canStand, fieldFit, isWhole, placeFit, carriedFit, rowsFit, countedFit, fit, standFit, consistent}
 use Rattle.pieces.specs.Serving.{Ready, Sits}
 use Rattle.pieces.proofs.Loading.{numbers-long, held-long}
 use Rattle.pieces.proofs.Stages.{at-numbers, at-records, at-counting, at-refused, at-accepted}
@@ -37,35 +41,14 @@ both false b e = never e
 
 -- ---- the numbers
 
-never-large : {A : Type 0} {n : ℕ} → TooLarge ≡ Bytes n → A
-never-large e = let z : _≡_ {A = ℕ} 0 1 = cc in absurd (omega arith)
-
-pub numbers-large : (p : Profile) (ns : List ℕ) → lengthOf ns ≡ TooLarge → false ≡ numbersFit p ns
-unfolding lengthOf numbersFit
-numbers-large p ns e = go (allSmall ns) (length (encodeAll ns)) e
-  where
-    go : (b : Bool) (n : ℕ) → pick b (Bytes n) TooLarge ≡ TooLarge → false ≡ b && leb (getD ns atMetrics 0) (mostMetrics p)
-    go true n e = never-large (sym e)
-    go false n e = refl
-
-pub numbers-small : (p : Profile) (ns : List ℕ) (n : ℕ) → lengthOf ns ≡ Bytes n → leb (getD ns atMetrics 0) (mostMetrics p) ≡ numbersFit p ns
-unfolding lengthOf numbersFit
-numbers-small p ns n e = go (allSmall ns) (length (encodeAll ns)) e
-  where
-    go : (b : Bool) (m : ℕ) → pick b (Bytes m) TooLarge ≡ Bytes n → leb (getD ns atMetrics 0) (mostMetrics p) ≡ b && leb (getD ns atMetrics 0) (mostMetrics p)
-    go true m e = refl
-    go false m e = never-large e
-
--- ---- the field
-
-module _ (p : Profile) (ns held : List ℕ) where
-  pub field-whole : wantedOf p ns ≤ length ns → false ≡ fieldFit p ns held
-  unfolding fieldFit
-  field-whole h = rw (le-ltb (length ns) (wantedOf p ns) h)
-
-  pub field-read : (q : Number) → readNumber held 0 ≡ q → length ns < wantedOf p ns → isEnds q ≡ fieldFit p ns held
-  unfolding fieldFit
-  field-read q e h = rw (lt-ltb (length ns) (wantedOf p ns) h, e)
+-- numbers that bring no fault count no more metrics than the profile has
+pub metrics-few : (p : Profile) (ns : List ℕ) → firstFault p ns ≡ 0 → getD ns atMetrics 0 ≤ mostMetrics p
+metrics-few p ns g =
+    split fixedNumbers (length ns)
+    (λ h.
+    let l : length (take atMetrics ns) ≡ atMetrics = length-take-le atMetrics ns (omega arith) in
+    metrics-small p (take atMetrics ns) (getD ns atMetrics 0) (fault-at p [] (take atMetrics ns) (getD ns atMetrics 0) (drop fixedNumbers ns) (rw (← split-at ns atMetrics 0 (omega arith)) g)) l)
+    (λ h. let e : getD ns atMetrics 0 ≡ 0 = List·getD-eq-default ns 0 {n = atMetrics} (omega arith) in rw e zero-le)
 
 -- ---- the words
 
@@ -106,41 +89,50 @@ module _ (p : Profile) (s : Stand) where
       abbrev held : List ℕ
       held = take (s .carried) (s .held)
 
-      module _ (e : s .stage ≡ 0) where
-        numbers-here : fit p (Numbers ns held) ≡ standFit p s
-        numbers-here = ap (fit p) (sym (at-numbers (s .stage) (s .left) (s .last) (s .above) ns held e)) ∙ staged (omega arith)
-
-        pub fit-numbers-no : numbersFit p ns ≡ false → false ≡ standFit p s
-        unfolding fit
-        fit-numbers-no f = rw (← numbers-here, f) refl
-
-        pub fit-numbers : numbersFit p ns ≡ true → fieldFit p ns held ≡ standFit p s
-        unfolding fit
-        fit-numbers f = rw (← numbers-here, f) refl
-
-      module _ (e : s .stage ≡ 1) where
-        rows-here : fit p (Records ns (s .left) (s .last) (s .above) held) ≡ standFit p s
-        rows-here = ap (fit p) (sym (at-records (s .stage) (s .left) (s .last) (s .above) ns held e)) ∙ staged (omega arith)
-
-        pub fit-rows-no : numbersFit p ns ≡ false → false ≡ standFit p s
-        unfolding fit
-        fit-rows-no f = rw (← rows-here, f) refl
-
-        pub fit-rows : length (s .held) ≡ 24 → numbersFit p ns ≡ true → rowsFit p (s .left) (s .last) (s .above) (s .carried) ≡ standFit p s
-        unfolding fit
-        fit-rows g f = let k : length held ≡ s .carried = length-take-le (s .carried) (s .held) (omega arith) in rw (← rows-here, f, k) refl
-
-      pub fit-counting : s .stage ≡ 2 → numbersFit p ns ≡ standFit p s
-      unfolding fit
-      fit-counting e = ap (fit p) (sym (at-counting (s .stage) (s .left) (s .last) (s .above) ns held e)) ∙ staged (omega arith)
-
       pub fit-refused : s .stage ≡ 3 → canStand (s .left) ≡ standFit p s
       unfolding fit
       fit-refused e = ap (fit p) (sym (at-refused (s .stage) (s .left) (s .last) (s .above) ns held e)) ∙ staged (omega arith)
 
-      pub fit-accepted : s .stage ≡ 4 → numbersFit p ns ≡ standFit p s
-      unfolding fit
-      fit-accepted e = ap (fit p) (sym (at-accepted (s .stage) (s .left) (s .last) (s .above) ns held (λ z. omega arith) (λ z. omega arith) (λ z. omega arith) (λ z. omega arith))) ∙ staged (omega arith)
+      -- in every other stage the numbers are looked at
+      faulty : (s .stage ≡ 3 → ⊥) → numbersFit p ns ≡ false → fit p (stateIn s) ≡ false
+      unfolding stateAs fit
+      faulty n f = rw (ne-eqb (s .stage) 3 n) (go (eqb (s .stage) 0) (eqb (s .stage) 1) (eqb (s .stage) 2))
+        where
+          go : (a b c : Bool) → fit p (pick a (Numbers ns held) (pick b (Records ns (s .left) (s .last) (s .above) held) (pick c (Counting ns (s .left)) (Accepted ns)))) ≡ false
+          go true b c = rw f refl
+          go false true c = rw f refl
+          go false false true = rw f refl
+          go false false false = rw f refl
+
+      pub fit-faulty : (s .stage ≡ 3 → ⊥) → numbersFit p ns ≡ false → false ≡ standFit p s
+      unfolding standFit
+      fit-faulty n f = rw (le-leb (s .count) 25 h, le-leb (s .carried) 24 l, faulty n f) (and-false (leb (s .stage) 4))
+
+      module _ (f : numbersFit p ns ≡ true) where
+        pub fit-numbers : s .stage ≡ 0 → fieldFit p ns held ≡ standFit p s
+        unfolding fit
+        fit-numbers e =
+            let q : fit p (Numbers ns held) ≡ standFit p s = ap (fit p) (sym (at-numbers (s .stage) (s .left) (s .last) (s .above) ns held e)) ∙ staged (omega arith) in
+            rw (← q, f) refl
+
+        pub fit-rows : length (s .held) ≡ 24 → s .stage ≡ 1 → isWhole p ns && rowsFit p (countOf ns) (s .left) (s .last) (s .above) (s .carried) ≡ standFit p s
+        unfolding fit
+        fit-rows g e =
+            let k : length held ≡ s .carried = length-take-le (s .carried) (s .held) (omega arith) in
+            let q : fit p (Records ns (s .left) (s .last) (s .above) held) ≡ standFit p s = ap (fit p) (sym (at-records (s .stage) (s .left) (s .last) (s .above) ns held e)) ∙ staged (omega arith) in
+            rw (← q, f, k) refl
+
+        pub fit-counting : s .stage ≡ 2 → isWhole p ns && countedFit p (countOf ns) (s .left) ≡ standFit p s
+        unfolding fit
+        fit-counting e =
+            let q : fit p (Counting ns (s .left)) ≡ standFit p s = ap (fit p) (sym (at-counting (s .stage) (s .left) (s .last) (s .above) ns held e)) ∙ staged (omega arith) in
+            rw (← q, f) refl
+
+        pub fit-accepted : s .stage ≡ 4 → isWhole p ns ≡ standFit p s
+        unfolding fit
+        fit-accepted e =
+            let q : fit p (Accepted ns) ≡ standFit p s = ap (fit p) (sym (at-accepted (s .stage) (s .left) (s .last) (s .above) ns held (λ z. omega arith) (λ z. omega arith) (λ z. omega arith) (λ z. omega arith))) ∙ staged (omega arith) in
+            rw (← q, f) refl
 
 -- ---- the record
 
@@ -180,23 +172,36 @@ module _ (w : List ℕ) where
 
 -- ---- a record that is served
 
+-- a record that is carried is unfinished
+pub carried-less : (p : Profile) (left carried : ℕ) → carriedFit p left carried ≡ true → carried < recordSize p
+carried-less p left carried e = go (eqb left 0) e
+  where
+    go : (b : Bool) → pick b (eqb carried 0) (ltb carried (recordSize p)) ≡ true → carried < recordSize p
+    go true e = omega (arith, eqb-true carried 0 e, size-pos p)
+    go false e = ltb-true carried (recordSize p) e
+
+-- and no more records are to come than a report has
+pub rows-few : (p : Profile) (ns : List ℕ) (n : ℕ) → firstFault p ns ≡ 0 → length ns ≡ wantedOf p ns → n ≤ countOf ns → n ≤ mostEntries
+rows-few p ns n g w l = omega (arith, count-few p ns g w)
+
 pub ready-fit : (p : Profile) (st : State) → fit p st ≡ true → Ready p st
 unfolding fit numbersFit fieldFit rowsFit
 ready-fit p (Numbers ns held) e =
     let a = both (numbersFit p ns) (fieldFit p ns held) e in
-    let b = both (allSmall ns) (leb (getD ns atMetrics 0) (mostMetrics p)) (a .0) in
+    let b = both (allSmall ns) (eqb (firstFault p ns) 0) (a .0) in
     let c = both (ltb (length ns) (wantedOf p ns)) (isEnds (readNumber held 0)) (a .1) in
-    ((ltb-true (length ns) (wantedOf p ns) (c .0), go (readNumber held 0) (c .1)), leb-true (getD ns atMetrics 0) (mostMetrics p) (b .1))
+    ((ltb-true (length ns) (wantedOf p ns) (c .0), go (readNumber held 0) (c .1)), metrics-few p ns (eqb-true (firstFault p ns) 0 (b .1)))
   where
     go : (q : Number) → isEnds q ≡ true → q ≡ Ends
     go (Value v next s) e = never e
     go Ends e = refl
 ready-fit p (Records ns n last above held) e =
-    let a = both (numbersFit p ns) (rowsFit p n last above (length held)) e in
-    let b = both (leb n mostEntries) (leb last limit && (leb above (limit + 1) && ltb (length held) (recordSize p))) (a .1) in
-    let c = both (leb last limit) (leb above (limit + 1) && ltb (length held) (recordSize p)) (b .1) in
-    let d = both (leb above (limit + 1)) (ltb (length held) (recordSize p)) (c .1) in
-    (ltb-true (length held) (recordSize p) (d .1), leb-true n mostEntries (b .0))
+    let a = both (numbersFit p ns) (isWhole p ns && rowsFit p (countOf ns) n last above (length held)) e in
+    let b = both (allSmall ns) (eqb (firstFault p ns) 0) (a .0) in
+    let c = both (isWhole p ns) (rowsFit p (countOf ns) n last above (length held)) (a .1) in
+    let d = both (leb n (countOf ns)) (placeFit p (countOf ns) n last above && carriedFit p n (length held)) (c .1) in
+    let f = both (placeFit p (countOf ns) n last above) (carriedFit p n (length held)) (d .1) in
+    (carried-less p n (length held) (f .1), rows-few p ns n (eqb-true (firstFault p ns) 0 (b .1)) (eqb-true (length ns) (wantedOf p ns) (c .0)) (leb-true n (countOf ns) (d .0)))
 ready-fit p (Counting ns n) e = tt
 ready-fit p (Refused n) e = tt
 ready-fit p (Accepted ns) e = tt

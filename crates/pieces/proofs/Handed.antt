@@ -15,16 +15,17 @@ use Rattle.entries.specs.Profiles.{recordSize, numberOf}
 use Rattle.entries.specs.Entries.{recordsGood}
 use Rattle.entries.specs.declared.Profile.{Profile}
 use Rattle.entries.specs.declared.Profile.the-variants.{One, Two}
-use Rattle.uncut.specs.State.{State, Numbers, Records, Counting, Refused, Accepted, start, standing, atEnd}
+use Rattle.uncut.specs.State.{State, Numbers, Records, Counting, Refused, Accepted, start, standing, headerAt, wholeAt, reportAt, atEnd}
 use Rattle.uncut.specs.Step.{recordGiven, step, given, after, delivered}
 use Rattle.uncut.specs.Cutting.{closed, stops, taking, Fed, over, shut, call}
 use Rattle.pieces.specs.Record.{profileIn, stateOf, wordsOf}
 use Rattle.pieces.specs.Fitness.{consistent}
-use Rattle.pieces.specs.Calls.{unlessRefused, openRefusal, openAfter, takeRefusal, takenOf, stateAfter, givenOf, takeAnswer, takeAfter, takeBytes, endAnswer, endAfter}
+use Rattle.pieces.specs.Calls.{unlessRefused, refusedReport, openRefusal, openAfter, takeRefusal, takenOf, stateAfter, givenOf, answerOf, refusedAs, takeAnswer, takeAfter, takeBytes, endRefusal, endAnswer, endAfter}
 use Rattle.pieces.specs.Kept.{Kept}
 use Rattle.pieces.specs.Handing.{KeepsConsistent, SaidBack, Handed, over as all, shut as refused, call as handing, HandedAnyhow}
 use Rattle.uncut.proofs.Uncut.{Sound, sound-step, whole-size}
-use Rattle.uncut.proofs.Cuts.{cut-anyhow}
+use Rattle.uncut.proofs.Cuts.{closed-after, cut-anyhow}
+use Rattle.uncut.proofs.All.{stands-closed, closed-takes}
 use Rattle.uncut.proofs.Rows.{size-pos}
 use Rattle.pieces.proofs.Staying.{kept-after, kept-end, kept-start}
 use Rattle.pieces.proofs.Back.{words-back, profile-back, words-pass, consistent-kept}
@@ -35,7 +36,7 @@ said-back p st h = words-back p st h
 
 -- ---- a part of bytes is bytes
 
-octets-taken : (k : ℕ) (xs : List ℕ) → Octets xs → Octets (take k xs)
+pub octets-taken : (k : ℕ) (xs : List ℕ) → Octets xs → Octets (take k xs)
 octets-taken zero xs q i = omega arith
 octets-taken (suc k) [] q i = omega arith
 octets-taken (suc k) (x ∷ xs) q zero = q zero
@@ -45,6 +46,11 @@ octets-front : (xs ys : List ℕ) → Octets (xs ++ ys) → Octets xs
 octets-front [] ys q i = omega arith
 octets-front (x ∷ xs) ys q zero = q zero
 octets-front (x ∷ xs) ys q (suc i) = octets-front xs ys (λ j. q (suc j)) i
+
+pub octets-dropped : (k : ℕ) (xs : List ℕ) → Octets xs → Octets (drop k xs)
+octets-dropped zero xs q = q
+octets-dropped (suc k) [] q = q
+octets-dropped (suc k) (x ∷ xs) q = octets-dropped k xs (λ j. q (suc j))
 
 octets-rest : (k : ℕ) (xs ys : List ℕ) → Octets (xs ++ ys) → Octets (drop k xs ++ ys)
 octets-rest zero xs ys q = q
@@ -83,7 +89,11 @@ take-consistent w part room o e = go (takeRefusal w room)
 
 end-consistent : (w : List ℕ) → consistent w ≡ true → consistent (endAfter w) ≡ true
 unfolding endAfter
-end-consistent w e = rw e (words-pass (profileIn w) (atEnd (stateOf w)) (kept-end (profileIn w) (stateOf w) (consistent-kept w e)))
+end-consistent w e = go (endRefusal w)
+  where
+    go : (n : ℕ) → consistent (unlessRefused n (wordsOf (profileIn w) (atEnd (stateOf w))) w) ≡ true
+    go zero = words-pass (profileIn w) (atEnd (stateOf w)) (kept-end (profileIn w) (stateOf w) (consistent-kept w e))
+    go (suc n) = e
 
 pub keeps-consistent : KeepsConsistent
 keeps-consistent = record { opening = open-consistent; part = take-consistent; end = end-consistent }
@@ -128,15 +138,6 @@ module _ (p : Profile) where
   sound-kept (Refused n) h = tt
   sound-kept (Accepted ns) h = tt
 
-  -- a refusal that stands closes the reader
-  stands-closed : (st : State) → (standing st ≡ 0 → ⊥) → closed st ≡ true
-  stands-closed (Numbers ns held) n = absurd (n refl)
-  stands-closed (Records ns k last above held) n = absurd (n refl)
-  stands-closed (Counting ns zero) n = refl
-  stands-closed (Counting ns (suc k)) n = absurd (n refl)
-  stands-closed (Refused k) n = refl
-  stands-closed (Accepted ns) n = absurd (n refl)
-
   -- ---- the calls are the steps
 
   pub record Stands (w' : List ℕ) (st : State) (s out : List ℕ) : Type 0 where
@@ -149,46 +150,81 @@ module _ (p : Profile) where
     abbrev w : List ℕ
     w = wordsOf p st
 
-    none : takeRefusal w (length xs) ≡ 0
-    unfolding takeRefusal
-    none = rw (words-pass p st h, profile-back p st, le-leb (recordSize p) (length xs) f)
-
     abbrev k : ℕ
     k = taking p (length xs) st part
+
+    pub refusal-is : takeRefusal w (length xs) ≡ standing st
+    unfolding takeRefusal
+    refusal-is = rw (words-pass p st h, profile-back p st, le-leb (recordSize p) (length xs) f, words-back p st h)
 
     taken-is : takenOf w part (length xs) ≡ take k part
     taken-is = ap₂ (λ (x : Profile) (y : State). take (taking x (length xs) y part) part) (profile-back p st) (words-back p st h)
 
-    state-is : stateAfter w part (length xs) ≡ after p st (take k part)
+    pub state-is : stateAfter w part (length xs) ≡ after p st (take k part)
     state-is = ap₂ (λ (x : Profile) (y : State). after x y (takenOf w part (length xs))) (profile-back p st) (words-back p st h) ∙ ap (after p st) taken-is
 
     given-is : givenOf w part (length xs) ≡ delivered p st (take k part)
     given-is = ap₂ (λ (x : Profile) (y : State). delivered x y (takenOf w part (length xs))) (profile-back p st) (words-back p st h) ∙ ap (delivered p st) taken-is
 
-    after-is : takeAfter w part (length xs) ≡ wordsOf p (after p st (take k part))
-    unfolding takeAfter
-    after-is = rw none (ap₂ wordsOf (profile-back p st) state-is)
-
     within : k ≤ length part
     within = taking-within p (length xs) st part
 
-    answer-taken : takeAnswer w part (length xs) .taken ≡ k
-    unfolding takeAnswer
-    answer-taken = rw none (ap length taken-is ∙ length-take-le k part within)
+    -- where a refusal stands no byte is taken
+    still : (n : ℕ) → standing st ≡ suc n → (k ≡ 0) × ((after p st (take k part) ≡ st) × (delivered p st (take k part) ≡ []))
+    still n q =
+        let c : closed st ≡ true = stands-closed st (λ z. omega arith) in
+        let a = closed-after p st (take k part) c in
+        (closed-takes p (length xs) st part c, (a .0, a .1))
 
-    answer-records : recordSize p * takeAnswer w part (length xs) .records ≡ length (delivered p st (take k part))
-    unfolding takeAnswer
-    answer-records =
-        let r = delivered-rows st (take k part) (sound-kept st h) in
-        rw none
-        (ap₂ (λ (x : List ℕ) (y : Profile). recordSize p * (length x / recordSize y)) given-is (profile-back p st) ∙ ap (λ (x : ℕ). recordSize p * (x / recordSize p)) (r .long)
-        ∙ ap (λ (x : ℕ). recordSize p * x) (mul-div-cancel-left (r .n) (size-pos p)) ∙ sym (r .long))
+    pub after-is : takeAfter w part (length xs) ≡ wordsOf p (after p st (take k part))
+    unfolding takeAfter
+    after-is = rw refusal-is (go (standing st) refl)
+      where
+        go : (n : ℕ) → standing st ≡ n → unlessRefused n (wordsOf (profileIn w) (stateAfter w part (length xs))) w ≡ wordsOf p (after p st (take k part))
+        go zero q = ap₂ wordsOf (profile-back p st) state-is
+        go (suc n) q = ap (wordsOf p) (sym (still n q .1 .0))
 
-    bytes-are : take (recordSize p * takeAnswer w part (length xs) .records) (takeBytes w part xs) ≡ delivered p st (take k part)
+    pub answer-taken : takeAnswer w part (length xs) .taken ≡ k
+    unfolding takeAnswer
+    answer-taken = rw refusal-is (go (standing st) refl)
+      where
+        go : (n : ℕ) → standing st ≡ n → unlessRefused n (answerOf (stateAfter w part (length xs)) (length (takenOf w part (length xs))) (length (givenOf w part (length xs)) / recordSize (profileIn w))) (refusedAs n) .taken ≡ k
+        go zero q = ap length taken-is ∙ length-take-le k part within
+        go (suc n) q = sym (still n q .0)
+
+    pub answer-records : recordSize p * takeAnswer w part (length xs) .records ≡ length (delivered p st (take k part))
+    unfolding takeAnswer
+    answer-records = rw refusal-is (go (standing st) refl)
+      where
+        go : (n : ℕ) → standing st ≡ n → recordSize p * unlessRefused n (answerOf (stateAfter w part (length xs)) (length (takenOf w part (length xs))) (length (givenOf w part (length xs)) / recordSize (profileIn w))) (refusedAs n) .records ≡ length (delivered p st (take k part))
+        go zero q =
+            let r = delivered-rows st (take k part) (sound-kept st h) in
+            ap₂ (λ (x : List ℕ) (y : Profile). recordSize p * (length x / recordSize y)) given-is (profile-back p st) ∙ ap (λ (x : ℕ). recordSize p * (x / recordSize p)) (r .long)
+            ∙ ap (λ (x : ℕ). recordSize p * x) (mul-div-cancel-left (r .n) (size-pos p)) ∙ sym (r .long)
+        go (suc n) q = mul-zero (recordSize p) ∙ sym (ap length (still n q .1 .1))
+
+    pub bytes-are : take (recordSize p * takeAnswer w part (length xs) .records) (takeBytes w part xs) ≡ delivered p st (take k part)
     unfolding takeBytes
-    bytes-are =
-        ap (λ (x : ℕ). take x (unlessRefused (takeRefusal w (length xs)) (splice xs 0 (givenOf w part (length xs))) xs)) answer-records
-        ∙ rw (none, given-is) (take-at (delivered p st (take k part)) (drop (0 + length (delivered p st (take k part))) xs) (length (delivered p st (take k part))) refl)
+    bytes-are = ap (λ (x : ℕ). take x (takeBytes w part xs)) answer-records ∙ rw refusal-is (go (standing st) refl)
+      where
+        go : (n : ℕ) → standing st ≡ n → take (length (delivered p st (take k part))) (unlessRefused n (splice xs 0 (givenOf w part (length xs))) xs) ≡ delivered p st (take k part)
+        go zero q = rw given-is (take-at (delivered p st (take k part)) (drop (0 + length (delivered p st (take k part))) xs) (length (delivered p st (take k part))) refl)
+        go (suc n) q = rw (still n q .1 .1) refl
+
+    -- a refusal that stands is given again
+    pub answer-stood : (n : ℕ) → standing st ≡ suc n → takeAnswer w part (length xs) .result ≡ suc n
+    unfolding takeAnswer
+    answer-stood n q = rw (refusal-is, q) refl
+
+    -- the header that the call hands over
+    pub answer-header : takeAnswer w part (length xs) .whole ≡ 1 → (wholeAt (after p st (take k part)) ≡ 1) × (takeAnswer w part (length xs) .header ≡ headerAt (after p st (take k part)))
+    unfolding takeAnswer
+    answer-header = rw refusal-is (go (standing st))
+      where
+        go : (n : ℕ) → unlessRefused n (answerOf (stateAfter w part (length xs)) (length (takenOf w part (length xs))) (length (givenOf w part (length xs)) / recordSize (profileIn w))) (refusedAs n) .whole ≡ 1
+            → (wholeAt (after p st (take k part)) ≡ 1) × (unlessRefused n (answerOf (stateAfter w part (length xs)) (length (takenOf w part (length xs))) (length (givenOf w part (length xs)) / recordSize (profileIn w))) (refusedAs n) .header ≡ headerAt (after p st (take k part)))
+        go zero e = (ap wholeAt (sym state-is) ∙ e, ap headerAt state-is)
+        go (suc n) e = absurd (omega arith)
 
   pub handed : {w w' s out : List ℕ} (st : State) → Kept p st → w ≡ wordsOf p st → Octets s → Handed p w s w' out → Stands w' st s out
   handed st h e o all = record { st' = st; says = e; kept = h; fed = over }
@@ -203,15 +239,33 @@ module _ (p : Profile) where
       let g : Fed p (after p st (take (taking p (length xs) st part) part)) (drop (taking p (length xs) st part) part ++ rest) (r .st') out = subst (λ (n : ℕ). Fed p (after p st (take (taking p (length xs) st part) part)) (drop n part ++ rest) (r .st') out) t (r .fed) in
       record { st' = r .st'; says = r .says; kept = r .kept; fed = subst (λ (d : List ℕ). Fed p st (part ++ rest) (r .st') (d ++ out)) (sym b) (call part rest (length xs) f g) }
 
+-- the end of a report on which a refusal stands
+refused-again : (st : State) (n : ℕ) → standing st ≡ suc n → refusedReport (suc n) ≡ reportAt (atEnd st)
+unfolding atEnd
+refused-again (Numbers ns held) n e = absurd (omega arith)
+refused-again (Records ns k last above held) n e = absurd (omega arith)
+refused-again (Counting ns zero) n e = ap refusedReport (sym e)
+refused-again (Counting ns (suc k)) n e = absurd (omega arith)
+refused-again (Refused k) n e = ap refusedReport (sym e)
+refused-again (Accepted ns) n e = absurd (omega arith)
+
 pub handed-anyhow : HandedAnyhow
-unfolding endAnswer
+unfolding endAnswer endRefusal
 handed-anyhow p before s w out o d =
     let r = handed p start (kept-start p) (opened p) o d in
     let c = cut-anyhow p s (r .st') out (r .fed) in
     let e : consistent w ≡ true = ap consistent (r .says) ∙ words-pass p (r .st') (r .kept) in
     let b : stateOf w ≡ r .st' = ap stateOf (r .says) ∙ words-back p (r .st') (r .kept) in
-    (rw (e, b) (c .0), c .1)
+    (rw (e, b) (said (r .st') ∙ c .0), c .1)
   where
+    -- where a refusal stands the end gives it
+    said : (st : State) → unlessRefused (standing st) (reportAt (atEnd st)) (refusedReport (standing st)) ≡ reportAt (atEnd st)
+    said st = it (standing st) refl
+      where
+        it : (n : ℕ) → standing st ≡ n → unlessRefused n (reportAt (atEnd st)) (refusedReport n) ≡ reportAt (atEnd st)
+        it zero q = refl
+        it (suc n) q = refused-again st n q
+
     opened : (p : Profile) → openAfter before (numberOf p) ≡ wordsOf p start
     opened One = refl
     opened Two = refl

@@ -19,9 +19,8 @@ use Rattle.report.specs.Limits.{metricPlaces, mostNumbers}
 use Rattle.report.specs.Average.{averageOf}
 use Rattle.report.specs.Header.{each, headerOf}
 use Rattle.report.specs.declared.Header.{Header}
-use Rattle.uncut.specs.State.{Numbers, Records, Counting, Refused, Accepted, headerAt}
+use Rattle.uncut.specs.State.{Numbers, Records, Counting, Refused, Accepted, headerAt, wholeAt}
 use Rattle.pieces.specs.Record.{numbersIn, heldIn, standIn, stateAs, stateIn, padded, bodyOf, wordsOf}
-use Rattle.pieces.specs.Calls.{wholeAt}
 use Rattle.pieces.specs.declared.Marks.{Marks}
 use Rattle.pieces.proofs.Loading.{numbers-long}
 use Rattle.pieces.proofs.Laying.{zeros, padded-at}

@@ -9,9 +9,8 @@ use borrow.Author.Tests.{ne-eqb}
 use lib.Dec.{eqb}
 use Rattle.wire.specs.Bytes.{pick}
 use Rattle.report.specs.Header.{headerOf, emptyHeader}
-use Rattle.uncut.specs.State.{Numbers, Records, Counting, Refused, Accepted, standing, headerAt, atEnd}
+use Rattle.uncut.specs.State.{Numbers, Records, Counting, Refused, Accepted, standing, headerAt, wholeAt, atEnd}
 use Rattle.pieces.specs.Record.{stateAs}
-use Rattle.pieces.specs.Calls.{wholeAt}
 
 module _ (stage left last above : ℕ) (ns held : List ℕ) where
   pub at-numbers : stage ≡ 0 → stateAs stage left last above ns held ≡ Numbers ns held

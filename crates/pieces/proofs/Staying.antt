@@ -1,14 +1,15 @@
 -- What passes stays so: from a state that is fit every byte leads to one that is.
 -- Assumes nothing.
-use Prim.Native.Nat.{ℕ, zero, suc, _+_, _≤_, _<_, zero-le}
+use Prim.Native.Nat.{ℕ, zero, suc, _+_, _-_, _*_, _≤_, _<_, zero-le}
 use mathlib.Core.Path.{_≡_, refl, sym}
 use mathlib.Core.Logic.{⊎-elim}
-use mathlib.Core.Bool.{Bool, true, false, _&&_}
+use mathlib.Core.Bool.{Bool, true, false}
 use mathlib.Core.List.{List, [], _∷_, _++_}
 use native.Mathlib.Omega.{arith}
-use borrow.Author.Tests.{le-leb, lt-ltb, leb-true, leb-false, eqb-true, eqb-false, ltb-true}
+use borrow.Author.Tests.{le-leb, leb-true, leb-false, eqb-true, eqb-false, ltb-true, ltb-false}
 use lib.Dec.{leb, eqb, ltb}
-use lib.ListN.{length, getD, length-append}
+use lib.ListN.{length, length-append}
+use lib.Seq.{take-all}
 use Rattle.wire.specs.Bytes.{pick, Octets}
 use Rattle.wire.specs.Fields.{formed}
 use Rattle.wire.specs.Numbers.{limit, allSmall, readNumber}
@@ -17,23 +18,26 @@ use Rattle.wire.specs.declared.Number.{Number}
 use Rattle.wire.specs.declared.Number.the-variants.{Value, Ends}
 use Rattle.wire.proofs.Reading.{number-ends}
 use Rattle.wire.proofs.Accepted.{accepted-small}
-use Rattle.entries.specs.Limits.{mostEntries}
-use Rattle.entries.specs.Profiles.{recordSize, mostMetrics}
-use Rattle.entries.specs.Entries.{entryOf, recordsGood}
+use Rattle.wire.proofs.Small.{all-small}
+use Rattle.entries.specs.Profiles.{recordSize}
+use Rattle.entries.specs.Entries.{groupOf, entryOf, follows, recordsGood}
 use Rattle.entries.specs.declared.Profile.{Profile}
+use Rattle.entries.specs.declared.Profile.the-variants.{One, Two}
 use Rattle.entries.specs.declared.Entry.{Entry}
 use Rattle.entries.proofs.Verdicts.{Verdict, short, wrong, right, verdict}
-use Rattle.report.specs.Layout.{atMetrics}
-use Rattle.report.specs.Header.{judge, judgeField, wantedOf, countOf}
-use Rattle.report.proofs.Following.{wanted-most}
+use Rattle.report.specs.Header.{judge, judgeField, faultAfter, wantedOf, countOf}
+use Rattle.report.proofs.Following.{wanted-most, wanted-last, fault-last}
 use Rattle.report.proofs.Places.{place-judged}
 use Rattle.uncut.specs.State.{State, Numbers, Records, Counting, Refused, Accepted, start, atEnd}
 use Rattle.uncut.specs.Step.{groupIn, aboveIn, afterBad, withNumber, fieldGrown, recordJudged, recordGrown, step, after}
-use Rattle.pieces.specs.Fitness.{numbersFit, isEnds, canStand, fieldFit, rowsFit, fit}
+use Rattle.pieces.specs.Fitness.{canStand, largestGroup, fit}
+use Rattle.pieces.specs.Exactly.{NumbersObey, HeaderObeys, RowsObey}
 use Rattle.pieces.specs.Kept.{Kept}
-use Rattle.pieces.proofs.Fits.{both}
-use Rattle.pieces.proofs.Keeping.{metrics-within, count-within}
+use Rattle.pieces.proofs.Passing.{fit-fact, fact-fit}
 use Rattle.uncut.proofs.Rows.{size-pos}
+
+no-true : {A : Type 0} → false ≡ true → A
+no-true e = let z : _≡_ {A = ℕ} 0 1 = cc in absurd (omega arith)
 
 -- ---- numbers and bytes, one more
 
@@ -66,78 +70,99 @@ module _ (p : Profile) where
 
   -- ---- the header
 
-  kept-number : (ns : List ℕ) → numbersFit p ns ≡ true → length ns ≤ 25 → (wantedOf p ns ≤ length ns → countOf ns ≤ mostEntries) → Kept p (withNumber p ns)
-  unfolding withNumber fit fieldFit rowsFit
-  kept-number ns f l w = go (leb (wantedOf p ns) (length ns)) refl
+  judged-good : (ns : List ℕ) (v : ℕ) (c : Bool) → judgeField p ns v c ≡ 0 → judge p ns v ≡ 0
+  judged-good ns v true e = e
+  judged-good ns v false e = absurd (omega arith)
+
+  kept-number : (ns : List ℕ) → NumbersObey p ns → length ns ≤ wantedOf p ns → Kept p (withNumber p ns)
+  unfolding withNumber
+  kept-number ns f l = go (leb (wantedOf p ns) (length ns)) refl
     where
       go : (b : Bool) → leb (wantedOf p ns) (length ns) ≡ b → Kept p (pick b (Records ns (countOf ns) 0 0 []) (Numbers ns []))
-      go true e = record { fits = rw (f, le-leb (countOf ns) mostEntries (w (leb-true (wantedOf p ns) (length ns) e)), lt-ltb 0 (recordSize p) (size-pos p)) refl; few = l; bytes = octets-none }
-      go false e = record { fits = rw (f, lt-ltb (length ns) (wantedOf p ns) (leb-false (wantedOf p ns) (length ns) e), sym (number-ends [] 0 zero-le)) refl; few = l; bytes = octets-none }
+      go true e = record {
+        fits = fact-fit p (Records ns (countOf ns) 0 0 []) (
+          (f, omega (arith, leb-true (wantedOf p ns) (length ns) e)),
+          record { some = omega arith; before = λ q. (refl, refl); behind = λ q. absurd (omega arith); unfinished = size-pos p; over = λ q. refl },
+        );
+        few = omega (arith, wanted-most p ns);
+        bytes = octets-none;
+      }
+      go false e = record { fits = fact-fit p (Numbers ns []) (f, (leb-false (wantedOf p ns) (length ns) e, sym (number-ends [] 0 zero-le))); few = omega (arith, wanted-most p ns); bytes = octets-none }
 
-  kept-field : (ns held : List ℕ) → numbersFit p ns ≡ true → length ns < wantedOf p ns → Octets held → Kept p (fieldGrown p ns held)
-  unfolding fieldGrown fit fieldFit numbersFit
+  kept-field : (ns held : List ℕ) → NumbersObey p ns → length ns < wantedOf p ns → Octets held → Kept p (fieldGrown p ns held)
+  unfolding fieldGrown fit
   kept-field ns held f w o = go (readNumber held 0) refl
     where
-      a : (allSmall ns ≡ true) × (leb (getD ns atMetrics 0) (mostMetrics p) ≡ true)
-      a = both (allSmall ns) (leb (getD ns atMetrics 0) (mostMetrics p)) f
-
-      m : getD ns atMetrics 0 ≤ mostMetrics p
-      m = leb-true (getD ns atMetrics 0) (mostMetrics p) (a .1)
-
       judged : (v : ℕ) (c : Bool) → v ≤ limit → (b : Bool) → eqb (judgeField p ns v c) 0 ≡ b → Kept p (pick b (withNumber p (ns ++ (v ∷ []))) (Refused (judgeField p ns v c)))
       judged v c h true e =
-          let j : judgeField p ns v c ≡ 0 = eqb-true (judgeField p ns v c) 0 e in
+          let j : judge p ns v ≡ 0 = judged-good ns v c (eqb-true (judgeField p ns v c) 0 e) in
           let l : length (ns ++ (v ∷ [])) ≡ length ns + 1 = length-append ns (v ∷ []) in
-          kept-number (ns ++ (v ∷ [])) (rw (small-last ns v (a .0) h, le-leb (getD (ns ++ (v ∷ [])) atMetrics 0) (mostMetrics p) (metrics-within p ns v c j w m)) refl) (omega (arith, wanted-most p ns)) (count-within p ns v c j w m)
+          kept-number (ns ++ (v ∷ [])) (all-small (ns ++ (v ∷ [])) .0 (small-last ns v (all-small ns .1 (f .0)) h), fault-last p [] ns v (f .1) j) (omega (arith, wanted-last p ns v))
       judged v c h false e = record { fits = judged-stands ns v c (eqb-false (judgeField p ns v c) 0 e); few = zero-le; bytes = octets-none }
 
       go : (q : Number) → readNumber held 0 ≡ q
           → Kept p (formed q (Numbers ns held) (λ v next b. pick (eqb (judgeField p ns v b) 0) (withNumber p (ns ++ (v ∷ []))) (Refused (judgeField p ns v b))))
       go (Value v next c) e = judged v c (accepted-small held 0 v next o e) (eqb (judgeField p ns v c) 0) refl
-      go Ends e = record { fits = rw (a .0, a .1, lt-ltb (length ns) (wantedOf p ns) w, e) refl; few = omega (arith, wanted-most p ns); bytes = o }
+      go Ends e = record { fits = fact-fit p (Numbers ns held) (f, (w, e)); few = omega (arith, wanted-most p ns); bytes = o }
 
   -- ---- the records
 
-  key-small : (r : List ℕ) → (groupIn (entryOf p r) ≤ limit) × (aboveIn (entryOf p r) ≤ limit + 1)
-  key-small r = go (entryOf p r) (verdict p r)
+  -- the place that a good record leaves
+  place-left : (last above : ℕ) (r : List ℕ) → length r ≡ recordSize p → recordsGood p 1 last above r ≡ true
+      → (groupIn (entryOf p r) ≤ largestGroup p) × ((0 < aboveIn (entryOf p r)) × (aboveIn (entryOf p r) ≤ limit + 1))
+  unfolding recordsGood
+  place-left last above r l e = go (entryOf p r) (verdict p r) (rw (take-all (recordSize p) r (omega arith)) at e)
     where
-      go : (e : Entry) → Verdict p r e → (groupIn e ≤ limit) × (aboveIn e ≤ limit + 1)
-      go e (short h) = (zero-le, zero-le)
-      go e (wrong h n) = (zero-le, zero-le)
-      go e (right h r) = (r .group, omega (arith, r .object))
+      grouped : (q : Profile) → groupOf q r ≤ limit → groupOf q r ≤ largestGroup q
+      grouped One h = zero-le
+      grouped Two h = h
 
-  kept-record : (ns : List ℕ) (n last above : ℕ) (held : List ℕ) → numbersFit p ns ≡ true → length ns ≤ 25 → Octets held → suc n ≤ mostEntries → last ≤ limit → above ≤ limit + 1 → Kept p (recordGrown p ns n last above held)
-  unfolding recordGrown recordJudged fit rowsFit
-  kept-record ns n last above held f l o h a b = go (ltb (length held) (recordSize p)) refl (recordsGood p 1 last above held)
-    where
-      few : n ≤ mostEntries
-      few = omega arith
+      go : (x : Entry) → Verdict p r x → follows last above x (λ group next. true) ≡ true → (groupIn x ≤ largestGroup p) × ((0 < aboveIn x) × (aboveIn x ≤ limit + 1))
+      go x (short h) e = no-true e
+      go x (wrong h n) e = no-true e
+      go x (right h y) e = (grouped p (y .group), (omega arith, omega (arith, y .object)))
 
-      go : (c : Bool) → ltb (length held) (recordSize p) ≡ c → (g : Bool)
-          → Kept p (pick c (Records ns (suc n) last above held) (pick g (Records ns n (groupIn (entryOf p held)) (aboveIn (entryOf p held)) []) (afterBad p ns n)))
-      go true e g = record { fits = rw (f, le-leb (suc n) mostEntries h, le-leb last limit a, le-leb above (limit + 1) b, e) refl; few = l; bytes = o }
-      go false e true =
-          let k = key-small held in
-          record { fits = rw (f, le-leb n mostEntries few, le-leb (groupIn (entryOf p held)) limit (k .0), le-leb (aboveIn (entryOf p held)) (limit + 1) (k .1), lt-ltb 0 (recordSize p) (size-pos p)) refl; few = l; bytes = octets-none }
-      go false e false = record { fits = f; few = l; bytes = octets-none }
+  fewer : (q : Profile) (n m : ℕ) → n ≤ m → recordSize q * n ≤ recordSize q * m
+  fewer One n m h = omega arith
+  fewer Two n m h = omega arith
+
+  module _ (ns : List ℕ) (n last above : ℕ) (held : List ℕ) (f : HeaderObeys p ns) (few : length ns ≤ 25) (o : Octets held) (l : length held ≤ recordSize p) where
+    kept-record : (carried : ℕ) → RowsObey p (countOf ns) (suc n) last above carried → Kept p (recordGrown p ns n last above held)
+    unfolding recordGrown recordJudged
+    kept-record carried h = go (ltb (length held) (recordSize p)) refl (recordsGood p 1 last above held) refl
+      where
+        go : (c : Bool) → ltb (length held) (recordSize p) ≡ c → (g : Bool) → recordsGood p 1 last above held ≡ g
+            → Kept p (pick c (Records ns (suc n) last above held) (pick g (Records ns n (groupIn (entryOf p held)) (aboveIn (entryOf p held)) []) (afterBad p ns n)))
+        go true e g q = record {
+          fits = fact-fit p (Records ns (suc n) last above held) (f, record { some = h .some; before = h .before; behind = h .behind; unfinished = ltb-true (length held) (recordSize p) e; over = λ z. absurd (omega arith) });
+          few = few;
+          bytes = o;
+        }
+        go false e true q =
+            let k = place-left last above held (omega (arith, ltb-false (length held) (recordSize p) e)) q in
+            record {
+              fits = fact-fit p (Records ns n (groupIn (entryOf p held)) (aboveIn (entryOf p held)) []) (f, record { some = omega (arith, h .some); before = λ z. absurd (omega (arith, h .some)); behind = λ z. k; unfinished = size-pos p; over = λ z. refl });
+              few = few;
+              bytes = octets-none;
+            }
+        go false e false q = record { fits = fact-fit p (afterBad p ns n) (f, (omega (arith, h .some), fewer p n (countOf ns - 1) (omega (arith, h .some)))); few = few; bytes = octets-none }
 
   -- ---- one byte more, and the end
 
   pub kept-step : (st : State) (b : ℕ) → Kept p st → b < 256 → Kept p (step p st b)
-  unfolding step fit fieldFit rowsFit
+  unfolding step fit
   kept-step (Numbers ns held) b h o =
-      let a = both (numbersFit p ns) (fieldFit p ns held) (h .fits) in
-      let c = both (ltb (length ns) (wantedOf p ns)) (isEnds (readNumber held 0)) (a .1) in
-      kept-field ns (held ++ (b ∷ [])) (a .0) (ltb-true (length ns) (wantedOf p ns) (c .0)) (octets-last held b (h .bytes) o)
+      let f = fit-fact p (Numbers ns held) (h .fits) in
+      kept-field ns (held ++ (b ∷ [])) (f .0) (f .1 .0) (octets-last held b (h .bytes) o)
   kept-step (Records ns zero last above held) b h o = record { fits = refl; few = zero-le; bytes = octets-none }
   kept-step (Records ns (suc n) last above held) b h o =
-      let a = both (numbersFit p ns) (rowsFit p (suc n) last above (length held)) (h .fits) in
-      let d = both (leb (suc n) mostEntries) (leb last limit && (leb above (limit + 1) && ltb (length held) (recordSize p))) (a .1) in
-      let e = both (leb last limit) (leb above (limit + 1) && ltb (length held) (recordSize p)) (d .1) in
-      let f = both (leb above (limit + 1)) (ltb (length held) (recordSize p)) (e .1) in
-      kept-record ns n last above (held ++ (b ∷ [])) (a .0) (h .few) (octets-last held b (h .bytes) o) (leb-true (suc n) mostEntries (d .0)) (leb-true last limit (e .0)) (leb-true above (limit + 1) (f .0))
+      let f = fit-fact p (Records ns (suc n) last above held) (h .fits) in
+      let l : length (held ++ (b ∷ [])) ≡ length held + 1 = length-append held (b ∷ []) in
+      kept-record ns n last above (held ++ (b ∷ [])) (f .0) (h .few) (octets-last held b (h .bytes) o) (omega (arith, f .1 .unfinished)) (length held) (f .1)
   kept-step (Counting ns zero) b h o = h
-  kept-step (Counting ns (suc n)) b h o = record { fits = h .fits; few = h .few; bytes = octets-none }
+  kept-step (Counting ns (suc n)) b h o =
+      let f = fit-fact p (Counting ns (suc n)) (h .fits) in
+      record { fits = fact-fit p (Counting ns n) (f .0, (f .1 .0, omega (arith, f .1 .1))); few = h .few; bytes = octets-none }
   kept-step (Refused n) b h o = h
   kept-step (Accepted ns) b h o = h
 
@@ -149,7 +174,7 @@ module _ (p : Profile) where
   pub kept-end : (st : State) → Kept p st → Kept p (atEnd st)
   unfolding atEnd fit
   kept-end (Numbers ns held) h = record { fits = refl; few = zero-le; bytes = octets-none }
-  kept-end (Records ns zero last above held) h = record { fits = both (numbersFit p ns) (rowsFit p 0 last above (length held)) (h .fits) .0; few = h .few; bytes = octets-none }
+  kept-end (Records ns zero last above held) h = record { fits = fact-fit p (Accepted ns) (fit-fact p (Records ns zero last above held) (h .fits) .0); few = h .few; bytes = octets-none }
   kept-end (Records ns (suc n) last above held) h = record { fits = refl; few = zero-le; bytes = octets-none }
   kept-end (Counting ns zero) h = record { fits = refl; few = zero-le; bytes = octets-none }
   kept-end (Counting ns (suc n)) h = record { fits = refl; few = zero-le; bytes = octets-none }
@@ -157,11 +182,5 @@ module _ (p : Profile) where
   kept-end (Accepted ns) h = h
 
   pub kept-start : Kept p start
-  unfolding fit fieldFit numbersFit allSmall
-  kept-start = record { fits = rw (sym (number-ends [] 0 zero-le)) (opened (wanted-pos)); few = zero-le; bytes = octets-none }
-    where
-      wanted-pos : 0 < wantedOf p []
-      wanted-pos = omega arith
-
-      opened : 0 < wantedOf p [] → true && leb 0 (mostMetrics p) && (ltb 0 (wantedOf p []) && true) ≡ true
-      opened h = rw (lt-ltb 0 (wantedOf p []) h, le-leb 0 (mostMetrics p) zero-le) refl
+  unfolding allSmall faultAfter
+  kept-start = record { fits = fact-fit p start ((all-small [] .0 refl, refl), (omega arith, sym (number-ends [] 0 zero-le))); few = zero-le; bytes = octets-none }

@@ -1,13 +1,13 @@
 -- The three calls: what each answers, the record afterwards, and the lent buffer.
 use Prim.Native.Nat.{ℕ, zero, suc, _/_}
-use mathlib.Core.List.{List, []}
+use mathlib.Core.List.{List}
 use lib.Dec.{leb}
 use lib.ListN.{length, take}
 use Rattle.wire.specs.Bytes.{pick, splice}
 use Rattle.entries.specs.Profiles.{recordSize, ofProfile}
 use Rattle.report.specs.Header.{emptyHeader}
 use Rattle.report.specs.declared.Report.{Report}
-use Rattle.uncut.specs.State.{State, Numbers, Records, Counting, Refused, Accepted, start, standing, headerAt, reportAt, atEnd}
+use Rattle.uncut.specs.State.{State, start, standing, headerAt, wholeAt, reportAt, atEnd}
 use Rattle.uncut.specs.Step.{after, delivered}
 use Rattle.uncut.specs.Cutting.{taking}
 use Rattle.pieces.specs.Record.{profileIn, stateOf, wordsOf}
@@ -33,9 +33,9 @@ openAfter w profile = ofProfile profile w (λ p. wordsOf p start)
 
 -- ---- a part
 
--- 1, then "9 if the buffer holds no whole record, before any byte is taken"
+-- 1, then "9 if the buffer holds no whole record, before any byte is taken", then the refusal that stands: "later calls give these again"
 unfoldable pub takeRefusal : List ℕ → ℕ → ℕ
-takeRefusal w room = pick (consistent w) (pick (leb (recordSize (profileIn w)) room) 0 9) 1
+takeRefusal w room = pick (consistent w) (pick (leb (recordSize (profileIn w)) room) (standing (stateOf w)) 9) 1
 
 -- the bytes that are taken, where they lead to, and the records that they bring
 abbrev pub takenOf : List ℕ → List ℕ → ℕ → List ℕ
@@ -46,15 +46,6 @@ stateAfter w part room = after (profileIn w) (stateOf w) (takenOf w part room)
 
 abbrev pub givenOf : List ℕ → List ℕ → ℕ → List ℕ
 givenOf w part room = delivered (profileIn w) (stateOf w) (takenOf w part room)
-
--- 1 where the header is whole and no refusal stands
-abbrev pub wholeAt : State → ℕ
-wholeAt (Numbers ns held) = 0
-wholeAt (Records ns n last above held) = 1
-wholeAt (Counting ns zero) = 0
-wholeAt (Counting ns (suc n)) = 1
-wholeAt (Refused n) = 0
-wholeAt (Accepted ns) = 1
 
 -- an answer: the refusal that stands or 0, how many bytes were taken, how many records were written, and the header once it is whole
 abbrev pub answerOf : State → ℕ → ℕ → Taken
@@ -69,7 +60,7 @@ takeAnswer w part room =
     (answerOf (stateAfter w part room) (length (takenOf w part room)) (length (givenOf w part room) / recordSize (profileIn w)))
     (refusedAs (takeRefusal w room))
 
--- a refused call changes nothing
+-- a call that is refused so changes nothing
 unfoldable pub takeAfter : List ℕ → List ℕ → ℕ → List ℕ
 takeAfter w part room = unlessRefused (takeRefusal w room) (wordsOf (profileIn w) (stateAfter w part room)) w
 
@@ -79,8 +70,13 @@ takeBytes w part xs = unlessRefused (takeRefusal w (length xs)) (splice xs 0 (gi
 
 -- ---- "The caller says the end"
 
-unfoldable pub endAnswer : List ℕ → Report
-endAnswer w = pick (consistent w) (reportAt (atEnd (stateOf w))) (refusedReport 1)
+-- 1, then the refusal that stands
+unfoldable pub endRefusal : List ℕ → ℕ
+endRefusal w = pick (consistent w) (standing (stateOf w)) 1
 
+unfoldable pub endAnswer : List ℕ → Report
+endAnswer w = unlessRefused (endRefusal w) (reportAt (atEnd (stateOf w))) (refusedReport (endRefusal w))
+
+-- a call that is refused so changes nothing
 unfoldable pub endAfter : List ℕ → List ℕ
-endAfter w = pick (consistent w) (wordsOf (profileIn w) (atEnd (stateOf w))) w
+endAfter w = unlessRefused (endRefusal w) (wordsOf (profileIn w) (atEnd (stateOf w))) w

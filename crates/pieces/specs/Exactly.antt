@@ -1,5 +1,5 @@
 -- The rows of the refusal table for the reader in pieces: each number is given exactly when its row says, and no other number is.
-use Prim.Native.Nat.{ℕ, zero, suc, _+_, _≤_, _<_}
+use Prim.Native.Nat.{ℕ, zero, suc, _+_, _-_, _*_, _≤_, _<_}
 use mathlib.Core.Path.{_≡_}
 use mathlib.Core.Logic.{_↔_, _⊎_}
 use mathlib.Core.Bool.{Bool, true}
@@ -8,29 +8,40 @@ use lib.ListN.{length, getD}
 use Rattle.wire.specs.Numbers.{limit, readNumber}
 use Rattle.wire.specs.Exactly.{OneOf, Small}
 use Rattle.wire.specs.declared.Number.the-variants.{Value, Ends}
-use Rattle.entries.specs.Limits.{mostEntries}
-use Rattle.entries.specs.Profiles.{recordSize, mostMetrics, numberOf, Other}
+use Rattle.entries.specs.Profiles.{recordSize, numberOf, Other}
 use Rattle.entries.specs.declared.Profile.{Profile}
-use Rattle.report.specs.Layout.{atMetrics}
 use Rattle.report.specs.Limits.{mostNumbers}
-use Rattle.report.specs.Header.{judgeField, wantedOf}
+use Rattle.report.specs.Header.{judgeField, firstFault, wantedOf, countOf}
 use Rattle.uncut.specs.State.{State, Numbers, Records, Counting, Refused, Accepted, standing}
 use Rattle.uncut.specs.Step.{after}
 use Rattle.pieces.specs.Record.{mostCarried, profileIn, stateOf}
-use Rattle.pieces.specs.Fitness.{consistent}
+use Rattle.pieces.specs.Fitness.{largestGroup, consistent}
 use Rattle.pieces.specs.Calls.{openRefusal, takenOf, takeAnswer, endAnswer}
 
 -- ---- 1: "a record whose parts disagree or break 5"
 
+-- each obeys 5, and none brings a fault
 abbrev pub NumbersObey : Profile → List ℕ → Type 0
-NumbersObey p ns = Small ns × (getD ns atMetrics 0 ≤ mostMetrics p)
+NumbersObey p ns = Small ns × (firstFault p ns ≡ 0)
+
+-- and they are a whole header's
+abbrev pub HeaderObeys : Profile → List ℕ → Type 0
+HeaderObeys p ns = NumbersObey p ns × (length ns ≡ wantedOf p ns)
+
+-- what is known of the records, of which the header counts so many
+pub record RowsObey (p : Profile) (count left last above carried : ℕ) : Type 0 where
+  pub some : left ≤ count
+  pub before : left ≡ count → (last ≡ 0) × (above ≡ 0)
+  pub behind : left < count → (last ≤ largestGroup p) × ((0 < above) × (above ≤ limit + 1))
+  pub unfinished : carried < recordSize p
+  pub over : left ≡ 0 → carried ≡ 0
 
 abbrev pub Fit : Profile → State → Type 0
 Fit p (Numbers ns held) = NumbersObey p ns × ((length ns < wantedOf p ns) × (readNumber held 0 ≡ Ends))
-Fit p (Records ns n last above held) = NumbersObey p ns × ((n ≤ mostEntries) × ((last ≤ limit) × ((above ≤ limit + 1) × (length held < recordSize p))))
-Fit p (Counting ns n) = NumbersObey p ns
+Fit p (Records ns n last above held) = HeaderObeys p ns × RowsObey p (countOf ns) n last above (length held)
+Fit p (Counting ns n) = HeaderObeys p ns × ((0 < countOf ns) × (n ≤ recordSize p * (countOf ns - 1)))
 Fit p (Refused n) = OneOf n (2 ∷ 10 ∷ 11 ∷ 12 ∷ 13 ∷ 15 ∷ [])
-Fit p (Accepted ns) = NumbersObey p ns
+Fit p (Accepted ns) = HeaderObeys p ns
 
 pub record Consistent (w : List ℕ) : Type 0 where
   pub profile : getD w 0 0 ≡ numberOf (profileIn w)

@@ -7,13 +7,13 @@ use lib.ListN.{length, take, drop}
 use Rattle.wire.specs.Bytes.{Octets}
 use Rattle.entries.specs.Profiles.{recordSize, numberOf}
 use Rattle.entries.specs.declared.Profile.{Profile}
-use Rattle.report.specs.Reader.{readReport}
+use Rattle.report.specs.Reader.{readNumbers, readReport}
 use Rattle.uncut.specs.State.{State, standing}
 use Rattle.pieces.specs.Record.{stateOf, wordsOf}
 use Rattle.pieces.specs.Fitness.{consistent}
 use Rattle.pieces.specs.Calls.{openRefusal, openAfter, takeAnswer, takeAfter, takeBytes, endAnswer, endAfter}
 use Rattle.pieces.specs.Kept.{Kept}
-use Rattle.uncut.specs.Whole.{goodRecords}
+use Rattle.uncut.specs.Whole.{goodRecords, headerIn}
 
 -- ---- consistency is kept, and an opening has it
 
@@ -43,3 +43,14 @@ abbrev pub HandedAnyhow : Type 0
 HandedAnyhow =
     (p : Profile) (before s w out : List ℕ) → Octets s → Handed p (openAfter before (numberOf p)) s w out
     → (endAnswer w ≡ readReport p s) × (out ≡ goodRecords p s)
+
+-- the header that a call hands over before the end, s being what was taken before and rest what is still to come: that of the report's
+-- numbers, as the whole reader reads them; of an accepted report the one that it answers
+pub record HandsHeader (p : Profile) (s w part rest xs : List ℕ) : Type 0 where
+  pub numbers : takeAnswer w part (length xs) .header ≡ headerIn (readNumbers p (s ++ (part ++ rest)))
+  pub accepted : readReport p (s ++ (part ++ rest)) .refusal ≡ 0 → takeAnswer w part (length xs) .header ≡ readReport p (s ++ (part ++ rest)) .header
+
+abbrev pub HeaderEarly : Type 0
+HeaderEarly =
+    (p : Profile) (before s w out part rest xs : List ℕ) → Octets s → recordSize p ≤ length xs → Handed p (openAfter before (numberOf p)) s w out
+    → takeAnswer w part (length xs) .whole ≡ 1 → HandsHeader p s w part rest xs

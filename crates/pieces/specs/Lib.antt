@@ -5,4 +5,6 @@ pub mod Serving
 pub mod Reading
 pub mod Kept
 pub mod Handing
+pub mod Later
+pub mod Sessions
 pub mod Exactly

@@ -3,9 +3,9 @@ ghost use mathlib.Core.Path.{_≡_};
 ghost use mathlib.Core.List.{List, _∷_};
 ghost use Prim.Native.Nat.{ℕ, _≤_};
 ghost use lib.ListN.{length};
-ghost use Rattle.uncut.specs.State.{start, standing, reportAt, atEnd};
+ghost use Rattle.uncut.specs.State.{start, standing, wholeAt, reportAt, atEnd};
 ghost use Rattle.pieces.specs.Record.{standIn, stateIn, profileOf, bodyOf, wordsOf};
-ghost use Rattle.pieces.specs.Calls.{refusedReport, wholeAt, openRefusal, openAfter, answerOf, refusedAs, takeAnswer, takeAfter, takeBytes, endAnswer, endAfter};
+ghost use Rattle.pieces.specs.Calls.{refusedReport, openRefusal, openAfter, answerOf, refusedAs, takeAnswer, takeAfter, takeBytes, endAnswer, endAfter};
 use crate::ACCEPTED;
 use crate::AT_PROFILE;
 use crate::Marks;
@@ -142,23 +142,22 @@ fn ended(s: Marks) -> Marks
     let stage = s.stage;
     let left = s.left;
     next.stage = REFUSED;
+    next.left = 2;
     match stage {
         1 => {
-            next.left = 2;
             if left == 0 {
                 next.stage = ACCEPTED;
             }
         }
         2 => {
-            next.left = 2;
             if left == 0 {
                 next.left = 12;
             }
         }
-        0 => {
-            next.left = 2;
+        0 => {}
+        3 => {
+            next.left = left;
         }
-        3 => {}
         _ => {
             next.stage = ACCEPTED;
         }
@@ -200,6 +199,10 @@ pub fn take(state: &mut [u64; WORDS], part: &[u8], out: &mut [u8]) -> Taken
     if out.len() < record_size(profile) {
         return nothing(9);
     }
+    let stands = standing_at(from);
+    if stands != 0 {
+        return nothing(stands);
+    }
     let moved = taken_in(profile, from, state, part, out);
     let next = moved.now;
     store(state, profile, next);
@@ -214,6 +217,10 @@ pub fn end(state: &mut [u64; WORDS]) -> Report
         return refused(1);
     }
     let from = loaded(state);
+    let stands = standing_at(from);
+    if stands != 0 {
+        return refused(stands);
+    }
     let profile = profile_of(state[AT_PROFILE]);
     let next = ended(from);
     store(state, profile, next);

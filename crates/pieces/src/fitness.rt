@@ -1,33 +1,49 @@
 // Which records are served.
 ghost use mathlib.Core.Path.{_≡_};
+ghost use mathlib.Core.Bool.{true, _&&_};
+ghost use Rattle.wire.specs.Numbers.{allSmall};
+ghost use Rattle.report.specs.Header.{countOf};
 ghost use Rattle.pieces.specs.Record.{standIn, standAt};
-ghost use Rattle.pieces.specs.Fitness.{numbersFit, fieldFit, rowsFit, canStand, standFit, consistent};
+ghost use Rattle.pieces.specs.Fitness.{numbersFit, fieldFit, isWhole, largestGroup, placeFit, rowsFit, countedFit, canStand, standFit, consistent};
 use crate::AT_PROFILE;
 use crate::CARRIED;
 use crate::Marks;
+use crate::REFUSED;
 use crate::WORDS;
 use crate::words::come;
 use crate::words::held_in;
 use crate::words::loaded;
-use entries::MOST_ENTRIES;
 use entries::Profile;
 use entries::record_size;
 use report::MOST_NUMBERS;
-use report::layout::AT_METRICS;
-use report::most_metrics;
-use report::number_at;
+use report::first_fault;
+use report::last_of;
 use report::wanted;
 use wire::LARGEST;
 use wire::Number;
 
-// Whether the numbers obey 5 and no more metrics are counted than the profile has.
+// Whether the numbers obey 5.
+fn all_small(numbers: &[u64]) -> bool
+    ensures { λ r. ⌜ r ≡ allSmall (now (numbers .entry)) ⌝ }
+{
+    let mut i: usize = 0;
+    while i < numbers.len() {
+        if LARGEST < numbers[i] {
+            return false;
+        }
+        i += 1;
+    }
+    true
+}
+
+// Whether the numbers obey 5 and bring no fault.
 fn numbers_fit(profile: Profile, numbers: &[u64]) -> bool
     ensures { λ r. ⌜ r ≡ numbersFit profile (now (numbers .entry)) ⌝ }
 {
-    let wire::Length::Bytes(_) = wire::length_of(numbers) else {
+    if !all_small(numbers) {
         return false;
-    };
-    number_at(numbers, AT_METRICS) <= most_metrics(profile) as u64
+    }
+    first_fault(profile, numbers) == 0
 }
 
 // Whether a further number is wanted and the bytes are no whole field.
@@ -43,20 +59,82 @@ fn field_fit(profile: Profile, numbers: &[u64], held: &[u8]) -> bool
     true
 }
 
-// Whether what is known of the records obeys 5 and the limits.
-fn rows_fit(profile: Profile, left: u64, last: u64, above: u64, carried: usize) -> bool
-    ensures { λ r. ⌜ r ≡ rowsFit profile left last above carried ⌝ }
+// Whether the numbers are all that their header has.
+fn is_whole(profile: Profile, numbers: &[u64]) -> bool
+    ensures { λ r. ⌜ r ≡ isWhole profile (now (numbers .entry)) ⌝ }
 {
-    if (MOST_ENTRIES as u64) < left {
+    numbers.len() == wanted(profile, numbers)
+}
+
+// The largest group that a record can have.
+fn largest_group(profile: Profile) -> u64
+    ensures { λ r. ⌜ r ≡ largestGroup profile ⌝ }
+{
+    match profile {
+        Profile::One => 0,
+        Profile::Two => LARGEST,
+    }
+}
+
+// Whether the place of the record before is one. There is none before the first record, while as many are left as are counted.
+fn place_fit(profile: Profile, count: u64, left: u64, last: u64, above: u64) -> bool
+    ensures { λ r. ⌜ r ≡ placeFit profile count left last above ⌝ }
+{
+    if left == count {
+        if last != 0 {
+            return false;
+        }
+        return above == 0;
+    }
+    if largest_group(profile) < last {
         return false;
     }
-    if LARGEST < last {
+    if above == 0 {
         return false;
     }
-    if LARGEST + 1 < above {
+    above <= LARGEST + 1
+}
+
+// Whether the header is whole and what is known of the records agrees with it.
+fn rows_fit(
+    profile: Profile,
+    numbers: &[u64],
+    left: u64,
+    last: u64,
+    above: u64,
+    carried: usize,
+) -> bool
+    ensures { λ r. ⌜ r ≡ isWhole profile (now (numbers .entry)) && rowsFit profile (countOf (now (numbers .entry))) left last above carried ⌝ }
+{
+    if !is_whole(profile, numbers) {
         return false;
+    }
+    let count = last_of(numbers);
+    if count < left {
+        return false;
+    }
+    if !place_fit(profile, count, left, last, above) {
+        return false;
+    }
+    if left == 0 {
+        return carried == 0;
     }
     carried < record_size(profile)
+}
+
+// Whether the header is whole and so many bytes can be left behind a bad one of its records.
+fn counted_fit(profile: Profile, numbers: &[u64], left: u64) -> bool
+    requires { ⌜ numbersFit profile (now numbers) ≡ true ⌝ }
+    ensures { λ r. ⌜ r ≡ isWhole profile (now (numbers .entry)) && countedFit profile (countOf (now (numbers .entry))) left ⌝ }
+{
+    if !is_whole(profile, numbers) {
+        return false;
+    }
+    let count = last_of(numbers);
+    if count == 0 {
+        return false;
+    }
+    left <= (record_size(profile) as u64) * (count - 1)
 }
 
 // Whether a report can bring the refusal.
@@ -87,23 +165,27 @@ fn stand_fit(profile: Profile, s: Marks, state: &[u64; WORDS]) -> bool
         return false;
     }
     let stage = s.stage;
+    if stage == REFUSED {
+        return can_stand(s.left);
+    }
+    if !numbers_fit(profile, come(state, count)) {
+        return false;
+    }
     match stage {
         0 => {
-            if !numbers_fit(profile, come(state, count)) {
-                return false;
-            }
             let held = held_in(state, carried);
             field_fit(profile, come(state, count), &held[..carried])
         }
-        1 => {
-            if !numbers_fit(profile, come(state, count)) {
-                return false;
-            }
-            rows_fit(profile, s.left, s.last, s.above, carried)
-        }
-        2 => numbers_fit(profile, come(state, count)),
-        3 => can_stand(s.left),
-        4 => numbers_fit(profile, come(state, count)),
+        1 => rows_fit(
+            profile,
+            come(state, count),
+            s.left,
+            s.last,
+            s.above,
+            carried,
+        ),
+        2 => counted_fit(profile, come(state, count), s.left),
+        4 => is_whole(profile, come(state, count)),
         _ => false,
     }
 }

@@ -246,8 +246,8 @@ no-loss =
     record {
       within = λ t q x u cs a b m f l e n k h.
           let w : acts (rInForce (o t q x u cs) (acc t q x u cs)) ≡ rInForce (o t q x u cs) (acc t q x u cs) = min-eq-left b in
-          rw (due-is .cause t q x u cs, ← w) (for-all t q x u cs m a f e n k (rw w h));
+          rw (← w) (for-all t q x u cs m a f e n k (rw w h));
       above = λ t q x u cs a m f l e n k h.
           let w : acts (rInForce (o t q x u cs) (acc t q x u cs)) ≡ 1023 = min-eq-right a in
-          rw (due-is .cause t q x u cs, ← w) (for-all t q x u cs m (omega arith) f e n k (rw w h));
+          rw (← w) (for-all t q x u cs m (omega arith) f e n k (rw w h));
     }

@@ -10,9 +10,10 @@ use Rattle.wire.specs.Bytes.{pick}
 use Rattle.receiver.specs.declared.Millis.{Millis}
 use Rattle.seen.specs.declared.Micros.{Micros}
 use Rattle.receiver.specs.declared.Receiver.{Receiver}
-use Rattle.promises.specs.Sequence.{packet, timer, immediate, threshold, write, confirm, Calls, none, _then_, after, opening}
+use Rattle.promises.specs.Sequence.{packet, timer, immediate, threshold, write, confirm, Calls, none, _then_, opening}
 use Rattle.promises.specs.Accepted.{Packet, packetOf, acceptedOf, packets, frames}
 use Rattle.promises.specs.Told.{largest, elicitingOf, among, inForce, floorIn}
+use Rattle.promises.specs.Due.{due}
 
 -- ---- "since R came into force"
 
@@ -48,9 +49,9 @@ writtenUpTo (cs then confirm k) = writtenUpTo cs
 
 -- ---- the statement
 
--- what holds of accepted calls and a cause, with the distance r
-abbrev pub KeepsNoneBack : Receiver → Calls → ℕ → ℕ → Type 0
-KeepsNoneBack opened cs cause r =
+-- what holds of accepted calls, with the distance r
+abbrev pub KeepsNoneBack : Receiver → Calls → ℕ → Type 0
+KeepsNoneBack opened cs r =
     -- "for every window number m still missing"; "No. 7 reads the window from this floor" (02, No. 12)
     (m : ℕ)
     → floorIn cs ≤ m
@@ -61,14 +62,15 @@ KeepsNoneBack opened cs cause r =
     → among (elicitingOf (underSameR opened cs)) n ≡ true
     → m + r ≤ n
     -- "then an acknowledgment is due or one has been written whose largest number is at least m + R"
-    → (cause ≡ 0 → ⊥) ⊎ (m + r < writtenUpTo cs)
+    -- due by the rules as the calls tell them; the record's cause is the same (Due, in its field cause)
+    → (due opened cs ≡ 0 → ⊥) ⊎ (m + r < writtenUpTo cs)
 
 -- "after each call [..] for all orders of calls from an opening, refused ones included": cs are any calls, of which the accepted ones are read
 pub record NoLossKeptBack : Type 0 where
   -- "while one R from 2 to 1,023 stays in force"
   pub within : (t q : ℕ) (m : Millis) (u : Micros) (cs : Calls) → 2 ≤ rInForce (opening t q m u) (acceptedOf (opening t q m u) cs)
       → rInForce (opening t q m u) (acceptedOf (opening t q m u) cs) ≤ 1023
-      → KeepsNoneBack (opening t q m u) (acceptedOf (opening t q m u) cs) (after (opening t q m u) cs .cause) (rInForce (opening t q m u) (acceptedOf (opening t q m u) cs))
+      → KeepsNoneBack (opening t q m u) (acceptedOf (opening t q m u) cs) (rInForce (opening t q m u) (acceptedOf (opening t q m u) cs))
   -- "An R above 1,023 acts as 1,023": no window number lies further below a packet, and with 1,023 for R the same holds
   pub above : (t q : ℕ) (m : Millis) (u : Micros) (cs : Calls) → 1023 ≤ rInForce (opening t q m u) (acceptedOf (opening t q m u) cs)
-      → KeepsNoneBack (opening t q m u) (acceptedOf (opening t q m u) cs) (after (opening t q m u) cs .cause) 1023
+      → KeepsNoneBack (opening t q m u) (acceptedOf (opening t q m u) cs) 1023

@@ -8,7 +8,7 @@ use native.Mathlib.Nat.{zero-add, min-eq-left}
 use native.Mathlib.Omega.{arith}
 use borrow.Author.Tests.{lt-ltb}
 use lib.ListN.{length, getD, take, drop, length-append, length-drop, length-take, drop-of-length-le, take-append-drop}
-use lib.Seq.{drop-cons, split-at, length-take-le, take-all}
+use lib.Seq.{drop-cons, getD-drop, split-at, length-take-le, take-all}
 use Rattle.wire.specs.Bytes.{Octets}
 use Rattle.wire.specs.Numbers.{widthOf, encodeAll, allSmall}
 use Rattle.wire.proofs.Lengths.{width-pos}
@@ -23,13 +23,14 @@ use Rattle.entries.proofs.Profiles.{sized}
 use Rattle.entries.proofs.Sizes.{whole-many, whole-even}
 use Rattle.entries.proofs.Exactly.{fault-judged}
 use Rattle.entries.proofs.Largest.{records-fit}
+use Rattle.entries.proofs.Values.{same-records}
 use Rattle.report.specs.Layout.{atMetrics, fixedNumbers, atType, atValue}
 use Rattle.report.specs.Limits.{metricPlaces}
 use Rattle.report.specs.Header.{firstFault, wantedOf, countOf, each, metricAt, headerOf, pairs, numbersOf}
 use Rattle.report.specs.Reader.{Reading, Whole, partOf, reportReading, reportOf, readReport, entriesIn, entriesOf}
 use Rattle.report.specs.Writer.{reportSize, writeAnswer, writeBytes}
 use Rattle.report.specs.Exactly.{Headed, Sound}
-use Rattle.report.specs.EachWay.{WritesBack, ReadWrite, EqualBytes}
+use Rattle.report.specs.EachWay.{WritesBack, ReadWrite, EqualBytes, Agree}
 use Rattle.report.specs.declared.Header.{Header}
 use Rattle.report.specs.declared.Written.the-variants.{Done}
 use Rattle.report.proofs.Signed.{stored-average}
@@ -39,6 +40,7 @@ use Rattle.report.proofs.Following.{metrics-placed, End, header, number
 use Rattle.report.proofs.Exactly.{report-reads, sound-judged}
 use Rattle.report.proofs.Places.{metrics-small, entries-small}
 use Rattle.report.proofs.Back.{report-part}
+use Rattle.report.proofs.Agreeing.{both-agree}
 
 -- ---- the numbers of a whole header are those of the header that they make
 
@@ -237,10 +239,28 @@ module _ (p : Profile) (s : List ℕ) (o : Octets s) (e : readReport p s .refusa
 pub read-write : ReadWrite
 read-write p s maximum xs o e f m r = writes-back p s o e maximum xs (rw (count-read p s o e) at f) m r
 
--- both reports are what the writer writes into the same room from the same header and entries
+-- the entries of a report are bytes of it
+entries-bytes : (p : Profile) (s : List ℕ) → Octets s → readReport p s .refusal ≡ 0 → Octets (entriesOf p s)
+entries-bytes p s o e =
+    let k : ℕ = recordSize p * readReport p s .header .entries in
+    rw (both-agree p s .part e) (λ i. rw getD-drop (o (length s - k + i)))
+
+-- entries with equal values are equal bytes, and both reports are what the writer writes into the same room from the same header and these entries
 pub equal-bytes : EqualBytes
-equal-bytes p s t o q same = sym (a .bytes) ∙ rw (long, same .headers, same .entries) (b .bytes)
+equal-bytes p s t o q same = sym (a .bytes) ∙ rw (long, same .headers, alike) (b .bytes)
   where
+    x : Agree p s
+    x = both-agree p s
+
+    y : Agree p t
+    y = both-agree p t
+
+    alike : entriesOf p s ≡ entriesOf p t
+    alike =
+        same-records p (readReport p s .header .entries) (entriesOf p s) (entriesOf p t) (entries-bytes p s o (same .accepted .0)) (entries-bytes p t q (same .accepted .1))
+        (x .many (same .accepted .0)) (y .many (same .accepted .1) ∙ ap (λ (h : Header). recordSize p * h .entries) (sym (same .headers)))
+        (x .each (same .accepted .0)) (same .entries)
+
     xs : List ℕ
     xs = s ++ t
 
@@ -251,7 +271,7 @@ equal-bytes p s t o q same = sym (a .bytes) ∙ rw (long, same .headers, same .e
     b = read-write p t mostEntries xs q (same .accepted .1) (entries-few p t q (same .accepted .1)) (omega arith) (rw length-append (omega arith))
 
     same-answer : Done (length s) (readReport p s .header .entries) ≡ Done (length t) (readReport p t .header .entries)
-    same-answer = a .answer ∙ rw (same .headers, same .entries) (sym (b .answer))
+    same-answer = a .answer ∙ rw (same .headers, alike) (sym (b .answer))
 
     long : length s ≡ length t
     long = let f = same-answer in cc

@@ -24,6 +24,10 @@ use Rattle.report.proofs.judging.wanted.Reads as wanted
 use Rattle.report.proofs.judging.wanted.Kinds as wanted-kinds
 use Rattle.report.proofs.judging.number_at.Reads as number-at
 use Rattle.report.proofs.judging.number_at.Kinds as number-at-kinds
+use Rattle.report.proofs.judging.last_of.Reads as last-of
+use Rattle.report.proofs.judging.last_of.Kinds as last-of-kinds
+use Rattle.report.proofs.judging.first_fault.Reads as first-fault
+use Rattle.report.proofs.judging.first_fault.Kinds as first-fault-kinds
 use Rattle.report.proofs.headers.average.Reads as average
 use Rattle.report.proofs.headers.average.Kinds as average-kinds
 use Rattle.report.proofs.headers.empty_header.Reads as empty-header
@@ -57,6 +61,12 @@ wanted-one κs given x y s t p q = p ∙ sym q
 
 pub number-at-one : OneAnswer 1 number-at-kinds.ps number-at-kinds.r number-at.Post
 number-at-one κs given x y s t p q = p ∙ sym q
+
+pub last-of-one : OneAnswer 1 last-of-kinds.ps last-of-kinds.r last-of.Post
+last-of-one κs given x y s t p q = p ∙ sym q
+
+pub first-fault-one : OneAnswer 1 first-fault-kinds.ps first-fault-kinds.r first-fault.Post
+first-fault-one κs given x y s t p q = p ∙ sym q
 
 pub average-one : OneAnswer 0 average-kinds.ps average-kinds.r average.Post
 average-one κs given x y s t p q = p ∙ sym q

@@ -8,6 +8,7 @@ use Rattle.wire.specs.Bytes.{pick, Octets}
 use Rattle.wire.specs.Numbers.{encodeAll}
 use Rattle.entries.specs.Limits.{mostEntries}
 use Rattle.entries.specs.Profiles.{recordSize}
+use Rattle.entries.specs.Entries.{entryAt}
 use Rattle.entries.specs.Fitting.{lastOf}
 use Rattle.entries.specs.Exactly.{Obeys}
 use Rattle.report.specs.Limits.{metricPlaces}
@@ -68,11 +69,12 @@ ReadWrite =
     (p : Profile) (s : List ℕ) (maximum : ℕ) (xs : List ℕ) → Octets s → readReport p s .refusal ≡ 0 → readReport p s .header .entries ≤ maximum → maximum ≤ mostEntries
     → length s ≤ length xs → WritesBack p s maximum xs
 
--- "From then on equal reports have equal bytes" (02, No. 5): equal headers and equal entries
+-- "From then on equal reports have equal bytes" (02, No. 5): equal are accepted reports that have equal values,
+-- those of the header and, at each index, group, object, status and age; in profile 1 each group is 0
 pub record SameReport (p : Profile) (s t : List ℕ) : Type 0 where
   pub accepted : (readReport p s .refusal ≡ 0) × (readReport p t .refusal ≡ 0)
   pub headers : readReport p s .header ≡ readReport p t .header
-  pub entries : entriesOf p s ≡ entriesOf p t
+  pub entries : (i : ℕ) → i < readReport p s .header .entries → entryAt p (entriesOf p s) i ≡ entryAt p (entriesOf p t) i
 
 abbrev pub EqualBytes : Type 0
 EqualBytes = (p : Profile) (s t : List ℕ) → Octets s → Octets t → SameReport p s t → s ≡ t

@@ -148,7 +148,7 @@ pub fn wanted(profile: Profile, numbers: &[u64]) -> usize
 }
 
 // The entry count, the last of the numbers.
-pub(crate) fn last_of(numbers: &[u64]) -> u64
+pub fn last_of(numbers: &[u64]) -> u64
     ensures { λ r. ⌜ r ≡ countOf (now (numbers .entry)) ⌝ }
 {
     let n = numbers.len();
@@ -160,10 +160,12 @@ pub(crate) fn last_of(numbers: &[u64]) -> u64
 
 // The first refusal that the numbers bring, each judged after those before it; 0 for none. Only the sum, the metric count and each type
 // or count behind can bring one, so no other number is looked at.
-pub(crate) fn first_fault(profile: Profile, numbers: &[u64]) -> u64
-    requires { ⌜ fixedNumbers ≤ length (now numbers) ⌝ }
+pub fn first_fault(profile: Profile, numbers: &[u64]) -> u64
     ensures { λ r. ⌜ r ≡ firstFault profile (now (numbers .entry)) ⌝ }
 {
+    if numbers.len() <= AT_LOST {
+        return 0;
+    }
     if !adds_up(
         numbers[AT_TOTAL],
         numbers[AT_RECEIVED],
@@ -173,7 +175,7 @@ pub(crate) fn first_fault(profile: Profile, numbers: &[u64]) -> u64
         return 11;
     }
     let most = most_metrics(profile) as u64;
-    if most < numbers[AT_METRICS] {
+    if most < number_at(numbers, AT_METRICS) {
         return 10;
     }
     let mut i: usize = FIXED;

@@ -14,11 +14,12 @@ use lib.Pow.{pow-pos}
 use Rattle.window.specs.Words.{bit}
 use Rattle.window.specs.Window.{isSet}
 use Rattle.window.proofs.Bits.{bit-lt, bit-above, same-bits}
-use Rattle.marks.specs.Marks.{AddedRange, mark, numberAt, noneIn, between}
+use Rattle.marks.specs.Marks.{mark, numberAt, noneIn, between, withRange}
 use Rattle.sent.specs.Record.{DueMarks, mostHeld, nextOf, endOf, floorOf, isDue, wrongAt, wrongBit, wordWrong}
 use Rattle.marks.proofs.Listing.{none-says, none-is, same-test}
 use Rattle.marks.proofs.Bits.{set-and, set-or, set-not, set-zero}
 use Rattle.marks.proofs.Ring.{between-same}
+use Rattle.marks.proofs.Ranges.{range-marks}
 
 -- ---- one word
 
@@ -140,15 +141,15 @@ pub no-mark : (n : ℕ) → mark (replicate 16 0) n ≡ false
 no-mark n = ap (λ (x : ℕ). isSet x (n % 64)) (getD-replicate 16 (n / 64 % 16) 0 0 (omega arith)) ∙ set-zero (n % 64)
 
 -- ws is what marking a range has made of sixteen words of 0
-from-none : (ws : List ℕ) (from to floor n : ℕ) → AddedRange (replicate 16 0) ws from to → floor ≤ from → to ≤ floor + 1024 → floor ≤ n → n < floor + 1024
+from-none : (ws : List ℕ) (from to floor n : ℕ) → ws ≡ withRange (replicate 16 0) (to - from) from → floor ≤ from → to ≤ floor + 1024 → floor ≤ n → n < floor + 1024
     → mark ws n ≡ between from to n
 from-none ws from to floor n r low high above below =
-    r .marks refl floor low high n above below ∙ ap (λ (x : Bool). x || between from to n) (no-mark n)
+    ap (λ (l : List ℕ). mark l n) r ∙ range-marks (replicate 16 0) from to floor n refl low high above below ∙ ap (λ (x : Bool). x || between from to n) (no-mark n)
 
 pub due-none : (floor end : ℕ) → end ≤ 3 → DueMarks (replicate 16 0) floor end
 due-none floor end h = record { marks = λ small n above below. no-mark n ∙ sym (lt-leb (n + 4) end (omega arith)) }
 
-pub due-some : (ws : List ℕ) (floor end : ℕ) → 3 < end → AddedRange (replicate 16 0) ws floor (end - 3) → DueMarks ws floor end
+pub due-some : (ws : List ℕ) (floor end : ℕ) → 3 < end → ws ≡ withRange (replicate 16 0) (end - 3 - floor) floor → DueMarks ws floor end
 due-some ws floor end h r = record {
   marks = λ small n above below.
       from-none ws floor (end - 3) floor n r (omega arith) (omega arith) above below
@@ -159,7 +160,7 @@ due-some ws floor end h r = record {
       ];
 }
 
-pub outside-is : (ws : List ℕ) (next : ℕ) → AddedRange (replicate 16 0) ws next 1024 → (n : ℕ) → next - 1024 ≤ n → n < next - 1024 + 1024 → mark ws n ≡ leb next n
+pub outside-is : (ws : List ℕ) (next : ℕ) → ws ≡ withRange (replicate 16 0) (1024 - next) next → (n : ℕ) → next - 1024 ≤ n → n < next - 1024 + 1024 → mark ws n ≡ leb next n
 outside-is ws next r n above below =
     from-none ws next 1024 (next - 1024) n r (omega arith) (omega arith) above below
     ∙ elim (decLe next n) [

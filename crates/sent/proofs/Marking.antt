@@ -7,9 +7,10 @@ use mathlib.Core.List.{List, []}
 use native.Mathlib.Omega.{arith}
 use lib.ListN.{length, replicate}
 use Rattle.frames.specs.Ack.{Ranges, before}
-use Rattle.marks.specs.Marks.{AddedRange, mark, between}
+use Rattle.marks.specs.Marks.{mark, between, withRange}
 use Rattle.sent.specs.Heard.{within}
 use Rattle.marks.proofs.Ring.{or-none, between-same}
+use Rattle.marks.proofs.Ranges.{range-marks}
 use Rattle.sent.proofs.Agree.{no-mark}
 
 assoc : (x y z : Bool) → ((x || y) || z) ≡ (x || (y || z))
@@ -25,10 +26,10 @@ unfolding Marked
 marked-none floor r n h l = ap (λ (x : Bool). x || within (r .pairs) n) (no-mark n)
 
 -- a range is added
-module _ (ws now : List ℕ) (floor lo high from : ℕ) (sixteen : length ws ≡ 16) (most : high < floor + 1024) (start : from ≡ lo + (floor - lo)) (a : AddedRange ws now from (high + 1)) (r : Ranges) (w : ℕ → Bool) (m : Marked ws floor r w) where
+module _ (ws now : List ℕ) (floor lo high from : ℕ) (sixteen : length ws ≡ 16) (most : high < floor + 1024) (start : from ≡ lo + (floor - lo)) (a : now ≡ withRange ws (high + 1 - from) from) (r : Ranges) (w : ℕ → Bool) (m : Marked ws floor r w) where
   added : (n : ℕ) → floor ≤ n → n < floor + 1024 → mark now n ≡ (mark ws n || between lo (high + 1) n)
   added n h l =
-      a .marks sixteen floor (omega arith) (omega arith) n h l
+      ap (λ (ws : List ℕ). mark ws n) a ∙ range-marks ws from (high + 1) floor n sixteen (omega arith) (omega arith) h l
       ∙ ap (λ (x : Bool). mark ws n || x) (between-same from (high + 1) n lo (high + 1) n (λ p q. (omega arith, q)) (λ p q. (omega arith, q)))
 
   pub marked-more : {q : Ranges} → before lo high q ≡ r → Marked now floor q w

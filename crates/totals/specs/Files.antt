@@ -101,9 +101,9 @@ takenFrom (suc n) st s at =
 abbrev pub taken : Standing → List ℕ → Taken
 taken st s = takenFrom (length s) st s 0
 
--- a report that is handed over by itself: the number that it is given, and the totals with it
+-- a report that is handed over by itself: the number under which it is counted, and the totals with it
 unfoldable pub reported : Standing → List ℕ → Added
-reported st r = record { result = numberOf r; next = record { totals = added (st .totals) r; skip = st .skip } }
+reported st r = record { counted_as = numberOf r; next = record { totals = added (st .totals) r; skip = st .skip } }
 
 -- what stands from used up to end goes to the start of the buffer
 abbrev pub moved : List ℕ → ℕ → ℕ → List ℕ

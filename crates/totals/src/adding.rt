@@ -149,7 +149,7 @@ impl Totals {
 }
 
 impl Standing {
-    // One report more that is handed over by itself, and the number that it is given; what a file has still to be skipped stays.
+    // One report more that is handed over by itself, and the number under which it is counted; what a file has still to be skipped stays.
     pub fn add(self, report: &[u8]) -> Added
         ensures { λ r. ⌜ r ≡ reported self (now (report .entry)) ⌝ }
     {
@@ -164,7 +164,7 @@ impl Standing {
             skip: self.skip,
         };
         Added {
-            result: brought.number,
+            counted_as: brought.number,
             next,
         }
     }

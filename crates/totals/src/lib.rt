@@ -55,8 +55,8 @@ pub struct Taken {
 // What one report that was handed over by itself comes to.
 #[repr(C)]
 pub struct Added {
-    // The number that the report was given, 0 for accepted.
-    pub result: u64,
+    // The number under which the report was counted, 0 for accepted: no refusal of the call, for the totals change beside it.
+    pub counted_as: u64,
     pub next: Standing,
 }
 

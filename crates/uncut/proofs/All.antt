@@ -15,7 +15,7 @@ use Rattle.entries.specs.declared.Profile.{Profile}
 use Rattle.report.specs.Header.{countOf}
 use Rattle.report.specs.Reader.{Reading, Whole, Stopped, partOf, readNumbers, judgeEntries, reportReading, reportOf, entriesIn}
 use Rattle.report.specs.declared.Report.{Report}
-use Rattle.uncut.specs.State.{State, Numbers, Records, Counting, Refused, Accepted, atEnd}
+use Rattle.uncut.specs.State.{State, Numbers, Records, Counting, Refused, Accepted, standing, atEnd}
 use Rattle.uncut.specs.Step.{step, given}
 use Rattle.uncut.specs.Whole.{goodRun, goodIn, AllDelivered, StandsAtTheEnd}
 use Rattle.uncut.specs.Cutting.{closed, stops, taking, Moves}
@@ -62,3 +62,23 @@ stands-at-the-end (Counting ns zero) h = refl
 stands-at-the-end (Counting ns (suc n)) h = absurd (h refl)
 stands-at-the-end (Refused n) h = refl
 stands-at-the-end (Accepted ns) h = absurd (h refl)
+
+-- a refusal that stands closes the reader
+pub stands-closed : (st : State) → (standing st ≡ 0 → ⊥) → closed st ≡ true
+stands-closed (Numbers ns held) n = absurd (n refl)
+stands-closed (Records ns k last above held) n = absurd (n refl)
+stands-closed (Counting ns zero) n = refl
+stands-closed (Counting ns (suc k)) n = absurd (n refl)
+stands-closed (Refused k) n = refl
+stands-closed (Accepted ns) n = absurd (n refl)
+
+-- and a closed reader takes nothing
+pub closed-takes : (p : Profile) (room : ℕ) (st : State) (s : List ℕ) → closed st ≡ true → taking p room st s ≡ 0
+unfolding taking
+closed-takes p room st [] e = refl
+closed-takes p room (Numbers ns held) (b ∷ s) e = let z : _≡_ {A = ℕ} 0 1 = cc in absurd (omega arith)
+closed-takes p room (Records ns n last above held) (b ∷ s) e = let z : _≡_ {A = ℕ} 0 1 = cc in absurd (omega arith)
+closed-takes p room (Counting ns zero) (b ∷ s) e = refl
+closed-takes p room (Counting ns (suc n)) (b ∷ s) e = let z : _≡_ {A = ℕ} 0 1 = cc in absurd (omega arith)
+closed-takes p room (Refused n) (b ∷ s) e = refl
+closed-takes p room (Accepted ns) (b ∷ s) e = refl

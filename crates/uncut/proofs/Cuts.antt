@@ -37,7 +37,7 @@ module _ (p : Profile) where
   closed-step (Refused n) b e = (refl, refl)
   closed-step (Accepted ns) b e = (refl, refl)
 
-  closed-after : (st : State) (s : List ℕ) → closed st ≡ true → (after p st s ≡ st) × (delivered p st s ≡ [])
+  pub closed-after : (st : State) (s : List ℕ) → closed st ≡ true → (after p st s ≡ st) × (delivered p st s ≡ [])
   unfolding after delivered
   closed-after st [] e = (refl, refl)
   closed-after st (b ∷ s) e =
@@ -45,7 +45,7 @@ module _ (p : Profile) where
       let d = closed-after st s e in
       (ap (λ (x : State). after p x s) (c .0) ∙ d .0, ap₂ (λ (l : List ℕ) (x : State). l ++ delivered p x s) (c .1) (c .0) ∙ d .1)
 
-  fed : {st st' : State} {s out : List ℕ} → Fed p st s st' out → (after p st s ≡ st') × (delivered p st s ≡ out)
+  pub fed : {st st' : State} {s out : List ℕ} → Fed p st s st' out → (after p st s ≡ st') × (delivered p st s ≡ out)
   unfolding after delivered
   fed over = (refl, refl)
   fed {st} {s = s} (shut e) = closed-after st s e

@@ -5,3 +5,4 @@ pub mod Uncut
 pub mod Cuts
 pub mod All
 pub mod Room
+pub mod Early

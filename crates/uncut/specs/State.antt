@@ -41,6 +41,15 @@ headerAt (Counting ns (suc n)) = headerOf ns
 headerAt (Refused n) = emptyHeader
 headerAt (Accepted ns) = headerOf ns
 
+-- 1 where it is handed over
+abbrev pub wholeAt : State → ℕ
+wholeAt (Numbers ns held) = 0
+wholeAt (Records ns n last above held) = 1
+wholeAt (Counting ns zero) = 0
+wholeAt (Counting ns (suc n)) = 1
+wholeAt (Refused n) = 0
+wholeAt (Accepted ns) = 1
+
 -- both, as the whole reader answers
 abbrev pub reportAt : State → Report
 reportAt st = record { refusal = standing st; header = headerAt st }

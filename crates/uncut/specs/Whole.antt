@@ -9,9 +9,10 @@ use Rattle.wire.specs.Bytes.{pick}
 use Rattle.entries.specs.Profiles.{recordSize}
 use Rattle.entries.specs.Entries.{entryOf, recordsGood}
 use Rattle.entries.specs.declared.Profile.{Profile}
-use Rattle.report.specs.Header.{countOf}
+use Rattle.report.specs.Header.{countOf, headerOf, emptyHeader}
+use Rattle.report.specs.declared.Header.{Header}
 use Rattle.report.specs.Reader.{Reading, Whole, Stopped, readNumbers, readReport, entriesOf}
-use Rattle.uncut.specs.State.{State, start, standing, reportAt, atEnd}
+use Rattle.uncut.specs.State.{State, start, standing, headerAt, wholeAt, reportAt, atEnd}
 use Rattle.uncut.specs.Step.{groupIn, aboveIn, after, delivered}
 
 -- the good records before the first bad or missing one, of n records
@@ -45,3 +46,19 @@ AllDelivered = (p : Profile) (s : List ℕ) → readReport p s .refusal ≡ 0 �
 -- "and later calls give these again": the end gives the refusal that stands
 abbrev pub StandsAtTheEnd : Type 0
 StandsAtTheEnd = (st : State) → (standing st ≡ 0 → ⊥) → standing (atEnd st) ≡ standing st
+
+-- ---- the header before the end
+
+-- the header of the numbers that were read
+abbrev pub headerIn : Reading → Header
+headerIn (Whole ns at) = headerOf ns
+headerIn (Stopped n) = emptyHeader
+
+-- one that is handed over is that of the report's numbers, as the whole reader reads them, whatever bytes are still to come
+abbrev pub HeaderOfNumbers : Type 0
+HeaderOfNumbers = (p : Profile) (s rest : List ℕ) → wholeAt (after p start s) ≡ 1 → headerAt (after p start s) ≡ headerIn (readNumbers p (s ++ rest))
+
+-- and where the whole reader accepts the report, the one that it answers
+abbrev pub HeaderOfAccepted : Type 0
+HeaderOfAccepted =
+    (p : Profile) (s rest : List ℕ) → wholeAt (after p start s) ≡ 1 → readReport p (s ++ rest) .refusal ≡ 0 → headerAt (after p start s) ≡ readReport p (s ++ rest) .header

@@ -16,6 +16,7 @@ pub enum Reader {
     Frequency,
     Immediate,
     Ack,
+    Check,
 }
 
 pub fn read_number(s: &[u8]) {
@@ -69,6 +70,12 @@ pub fn read_ack0(s: &[u8]) {
     read_ack(s, &mut slice);
 }
 
+fn check_ack(s: &[u8]) {
+    show::text(b"check_ack");
+    show::bytes(s);
+    show::checked(frames::check_ack(s));
+}
+
 fn read(reader: Reader, s: &[u8]) {
     match reader {
         Reader::Number => read_number(s),
@@ -77,6 +84,7 @@ fn read(reader: Reader, s: &[u8]) {
         Reader::Frequency => read_frequency(s),
         Reader::Immediate => read_immediate(s),
         Reader::Ack => read_ack5(s),
+        Reader::Check => check_ack(s),
     }
 }
 
@@ -87,6 +95,14 @@ pub fn cuts(reader: Reader, s: &[u8]) {
         n += 1;
         read(reader, &s[..n]);
     }
+}
+
+pub fn ack_checked() {
+    show::text(b"\nACK is checked: P6's bytes cut at every byte, below 0, a longer type, counts\n");
+    cuts(Reader::Check, b"\x02\x05\x00\x01\x02\x00\x01");
+    check_ack(b"\x02\x05\x00\x00\x06");
+    check_ack(b"\x40\x02");
+    check_ack(b"\x03\x05\x00\x00\x05\x01\x02\x03");
 }
 
 // ---- writing
@@ -125,6 +141,14 @@ pub fn put_two_in(first: u64, second: u64, room: isize) {
     let mut buf = [0xeeu8; 9];
     let n = io::count(room, &buf);
     put_numbers(&values, &mut buf[..n]);
+}
+
+// How many bytes two numbers take together.
+pub fn length_of_two(first: u64, second: u64) {
+    let values = [first, second];
+    show::text(b"length_of");
+    show::numbers(&values);
+    show::length(wire::length_of(&values));
 }
 
 fn put_fixed4(v: u32, buf: &mut [u8]) {

@@ -77,6 +77,8 @@ fn numbers_written() {
     calls::put_two_in(37, 15293, 4);
     calls::put_two_in(37, 4611686018427387904, 9);
     calls::put_two_in(37, 4611686018427387904, 0);
+    calls::length_of_two(37, 15293);
+    calls::length_of_two(37, 4611686018427387904);
 }
 
 fn fixed_read() {
@@ -141,6 +143,7 @@ fn ack_before_room() {
     show::text(b"\nThe whole frame is checked before the room: a range count of 2^62 - 1\n");
     calls::read_ack0(b"\x02\x05\x00\x01\x02");
     calls::read_ack0(b"\x02\x05\x00\x01\x04\x02");
+    calls::read_ack0(b"\x02\x05\x00\x00\x06");
     calls::read_ack0(b"\x02\x05\x00\xff\xff\xff\xff\xff\xff\xff\xff\x05");
     calls::read_ack0(b"\x02\x05\x00\xff\xff\xff\xff\xff\xff\xff\xff\x05\x00");
 }
@@ -269,6 +272,7 @@ fn main() {
     ack_read();
     ack_below_zero();
     ack_before_room();
+    calls::ack_checked();
     ack_counts();
     frames_written();
     direct::at_the_ends();

@@ -1,11 +1,13 @@
 // How a line is written: the call, the bytes or numbers that it is given, and what it answers.
 use frames::Ack;
+use frames::Checked;
 use frames::Frequency;
 use frames::Immediate;
 use frames::Tail;
 use receiver::Agreed;
 use receiver::Verdict;
 use wire::Fixed;
+use wire::Length;
 use wire::Number;
 use wire::Put;
 
@@ -93,6 +95,15 @@ pub fn put(answer: Put, buf: &[u8]) {
     text(b"\n");
 }
 
+// How many bytes numbers take together.
+pub fn length(answer: Length) {
+    match answer {
+        Length::Bytes(total) => count(b": length ", total as u64),
+        Length::TooLarge => count(b": refused ", answer.refusal()),
+    }
+    text(b"\n");
+}
+
 // What the reader of ACK_FREQUENCY answers.
 pub fn frequency(answer: Frequency) {
     match answer {
@@ -155,6 +166,29 @@ pub fn ack(answer: Ack, slice: &[u64]) {
     }
     text(b"; slice");
     numbers(slice);
+    text(b"\n");
+}
+
+// What the check of an ACK frame answers: where its first range stands, and how many come after it.
+pub fn checked(answer: Checked) {
+    match answer {
+        Checked::Frame {
+            largest,
+            delay,
+            at,
+            count: more,
+            used,
+            tail,
+        } => {
+            count(b": largest ", largest);
+            count(b", delay ", delay);
+            count(b", first range at ", at as u64);
+            count(b", ranges after it ", more);
+            count(b", length ", used as u64);
+            counts(tail);
+        }
+        _ => count(b": refused ", answer.refusal()),
+    }
     text(b"\n");
 }
 

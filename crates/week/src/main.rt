@@ -1,10 +1,12 @@
 // The week's totals of document 02, No. 13: a file of reports on standard input, one page on standard output.
-// It holds one piece of the file and one page, less than 64 KiB with all that it calls.
+// It holds one piece of the file and two pages, less than 64 KiB with all that it calls.
 ghost use mathlib.Core.Path.{_≡_};
-ghost use Prim.Native.Nat.{_≤_};
-ghost use lib.ListN.{length};
-ghost use Rattle.page.specs.Page.{pageWritten};
-ghost use Rattle.week.specs.Turn.{Turned, HasRead};
+ghost use Prim.Native.Nat.{_≤_, _<_};
+ghost use lib.ListN.{length, take};
+ghost use Rattle.io.specs.Counts.{Counts};
+ghost use Rattle.page.specs.Page.{longestPage};
+ghost use Rattle.week.specs.Turn.{least, Took, Turned, HasRead, toPrint, Printed};
+use libc::STDERR_FILENO;
 use libc::STDIN_FILENO;
 use libc::STDOUT_FILENO;
 use totals::Standing;
@@ -16,24 +18,25 @@ const PIECE: usize = 32768;
 // Room for the longest page.
 const ROOM: usize = 1363;
 
-// Where the program stands between two pieces.
+// Where the program stands between two reads.
 struct Place {
     standing: Standing,
-    // How many bytes at the start of the buffer are left of the last piece.
+    // How many bytes at the start of the buffer are left of what was read.
     left: usize,
-    // Whether there is more to read.
+    // Whether the last read gave bytes, so that there may be more.
     more: bool,
+    // Whether it gave none because the input has ended.
+    ended: bool,
 }
 
-// Reads on behind what is left, takes the reports that are whole, and keeps the rest.
-// The file ends with a piece that is not full.
-fn turn(place: Place, input: &mut [u8]) -> Place
+// Takes what a read put behind what is left: the reports that are whole. The rest is kept.
+// got is what the read answered: how many bytes, 0 at the end of the input, less than 0 where it failed.
+fn took(place: Place, input: &mut [u8], got: isize) -> Place
     requires { ⌜ place .left ≤ length (now input) ⌝ }
-    ensures { λ r. ⌜ Turned place (now (input .entry)) r (now (input .exit)) ⌝ }
+    ensures { λ r. ⌜ Took place (now (input .entry)) got r (now (input .exit)) ⌝ }
 {
     let left = place.left;
-    let read = io::read_full(STDIN_FILENO, &mut input[left..]);
-    let end = left + read;
+    let end = left + io::count(got, &input[left..]);
     let before = place.standing;
     let taken = before.piece(&input[..end]);
     let used = taken.used;
@@ -42,30 +45,32 @@ fn turn(place: Place, input: &mut [u8]) -> Place
     Place {
         standing,
         left: end - used,
-        more: end == input.len(),
+        more: 0 < got,
+        ended: got == 0,
     }
 }
 
-// Prints the page of a file that was read to its end.
-fn print(place: Place, output: &mut [u8])
-    ensures { λ r. ⌜ now (output .exit) ≡ pageWritten (place .standing) (place .left) (now (output .entry)) ⌝ }
+// Reads on behind what is left, and takes what came.
+fn turn(place: Place, input: &mut [u8]) -> Place
+    requires { ⌜ place .left < length (now input) ⌝ }
+    ensures { λ r. ⌜ Turned place (now (input .entry)) r (now (input .exit)) ⌝ }
 {
-    let standing = place.standing;
-    let Put::Done { next } = page::put_page(output, standing, place.left) else {
-        return;
-    };
-    io::write_all(STDOUT_FILENO, &output[..next]);
+    let left = place.left;
+    let got = libc::read(STDIN_FILENO, &mut input[left..]);
+    took(place, input, got)
 }
 
-// Reads the file to its end.
+// Reads up to the end of the file, or to a read that fails.
 // A proved loop has to end, and nothing says that an input does: it counts its turns down from a number that no run uses up.
 fn read_week(input: &mut [u8]) -> Place
+    requires { ⌜ least ≤ length (now input) ⌝ }
     ensures { λ r. ⌜ HasRead r ⌝ }
 {
     let mut place = Place {
         standing: Standing::start(),
         left: 0,
         more: true,
+        ended: false,
     };
     let mut turns = u64::MAX;
     while 0 < turns && place.more {
@@ -75,9 +80,47 @@ fn read_week(input: &mut [u8]) -> Place
     place
 }
 
+// Lays out what is printed: the page of a file that was read to its end, and nothing of one that was not. Answers how many bytes.
+fn lay_out(place: Place, output: &mut [u8]) -> usize
+    requires { ⌜ longestPage ≤ length (now output) ⌝ }
+    ensures { λ r. ⌜ (take r (now (output .exit)) ≡ toPrint place) × Counts r (now (output .exit)) ⌝ }
+{
+    let ended = place.ended;
+    if !ended {
+        return 0;
+    }
+    let standing = place.standing;
+    let Put::Done { next } = page::put_page(output, standing, place.left) else {
+        return 0;
+    };
+    next
+}
+
+// The whole program but for its last write.
+fn week(input: &mut [u8], output: &mut [u8]) -> usize
+    requires { ⌜ (least ≤ length (now input)) × (longestPage ≤ length (now output)) ⌝ }
+    ensures { λ r. ⌜ Printed (take r (now (output .exit))) × Counts r (now (output .exit)) ⌝ }
+{
+    let place = read_week(input);
+    lay_out(place, output)
+}
+
 fn main() {
     let mut input = [0u8; PIECE];
     let mut output = [0u8; ROOM];
-    let place = read_week(&mut input);
-    print(place, &mut output);
+    let length = week(&mut input, &mut output);
+    if length == 0 {
+        io::write_all(
+            STDERR_FILENO,
+            b"week: standard input cannot be read, so no page is printed\n",
+        );
+        return;
+    }
+    let printed = io::write_all(STDOUT_FILENO, &output[..length]);
+    if !printed {
+        io::write_all(
+            STDERR_FILENO,
+            b"week: standard output cannot be written, so the page is missing\n",
+        );
+    }
 }

@@ -1,27 +1,26 @@
--- `marks::add_range` meets its contract. The loop's invariant: the numbers up to here are marked.
+-- `marks::add_range` meets its contract. The loop's invariant: the words are those with the numbers up to here marked.
 -- The measure is what is left of them. Assumes nothing.
 use mathlib.Core.Path.{_≡_, refl, sym, ap, subst, _∙_}
 use Prim.Native.Nat.{ℕ, _+_, _-_, _≤_, _<_}
 use native.Mathlib.Omega.{arith}
 use borrow.Author.Needs.{needs}
-use lib.ListN.{length, length-set}
-use Rattle.marks.specs.Marks.{AddedRange}
-use Rattle.marks.proofs.Ring.{added-empty, added-more}
+use Rattle.marks.specs.Marks.{withRange}
+use Rattle.marks.proofs.Ranges.{range-none, range-run}
 use Rattle.marks.proofs.add_range.Statement.{statement}
 use Rattle.marks.proofs.add_range.Tie as tie
 
 abbrev Inv-loop : tie.InvT-loop
 Inv-loop words₀ from to at₀ words at =
-    (length words ≡ length words₀) × (from ≤ at) × (at ≤ to) × AddedRange words₀ words from at
+    (from ≤ at) × (at ≤ to) × (words ≡ withRange words₀ (at - from) from)
 
 abbrev μ-loop : tie.MeasureT-loop
 μ-loop words₀ from to at₀ words at = to - at
 
 returns : tie.Need-returns Inv-loop μ-loop
-returns c = added-empty _ _ _ (c .if1 .taken)
+returns c = range-none _ _ _ (c .if1 .taken)
 
 loop-holds : tie.Need-loop-holds Inv-loop μ-loop
-loop-holds c = (refl, omega arith, omega arith, added-empty _ _ _ (omega arith))
+loop-holds c = (omega arith, omega arith, range-none _ _ _ (omega arith))
 
 sub-lesser : tie.Need-sub-lesser Inv-loop μ-loop
 sub-lesser c = search needs
@@ -65,13 +64,13 @@ loop-again c =
     let l = b .before .before in
     let e = b .lesser .ensures in
     let t = b .before .loop-test .taken in
-    (simp length-set (l .loop .inv .0), omega (arith, l .loop .inv .1), omega (arith, e .2, t), added-more _ _ _ (l .before .before .args .to) _ _ (l .loop .inv .0) (l .loop .inv .1) (omega (arith, e .2, t)) (omega (arith, e .1)) (l .loop .inv .3))
+    (omega (arith, l .loop .inv .0), omega (arith, e .2, t), range-run _ _ _ _ _ (l .loop .inv .0) (e .0) (omega (arith, e .1)) (l .loop .inv .2))
 
 returns-2 : tie.Need-returns-2 Inv-loop μ-loop
 returns-2 c =
     let l = c .before .loop in
-    let e : l .at ≡ c .before .before .before .args .to = omega (arith, l .inv .2) in
-    subst (λ (x : ℕ). AddedRange (c .before .before .before .args .words .now) (l .words) (c .before .before .before .args .from) x) e (l .inv .3)
+    let e : l .at ≡ c .before .before .before .args .to = omega (arith, l .inv .1) in
+    l .inv .2 ∙ ap (λ (x : ℕ). withRange (c .before .before .before .args .words .now) (x - c .before .before .before .args .from) (c .before .before .before .args .from)) e
 
 pub add-range-spec : {M : Type 1} → statement M
 add-range-spec =

@@ -1,70 +1,53 @@
--- `totals::put_page` meets its contract: the page that the tests lead to is the one that the definition says.
+-- `page::put_page` meets its contract: what was laid out is the page, and it is copied where it fits.
 -- Assumes nothing.
-use mathlib.Core.Path.{ap}
+use mathlib.Core.Path.{sym}
 use native.Mathlib.Omega.{arith}
-use Rattle.wire.specs.declared.Put.the-variants.{Done}
-use Rattle.page.specs.Page.{lines, early}
-use Rattle.page.proofs.Printing.{printed-skipping, printed-left, printed-whole, page-no, page-yes}
+use lib.ListN.{take, length-take}
+use lib.Seq.{length-take-le}
+use Rattle.page.proofs.Printing.{laid-out, page-no, page-yes}
 use borrow.Author.Needs.{needs}
 use Rattle.page.proofs.put_page.Statement.{statement}
 use Rattle.page.proofs.put_page.Tie as tie
 
-mul-if1 : tie.Need-mul-if1
-mul-if1 c = search needs
+slice-aggregate-lay-out : tie.Need-slice-aggregate-lay-out
+slice-aggregate-lay-out c = search needs
+
+lay-out-requires : tie.Need-lay-out-requires
+lay-out-requires c κs = search needs
 
 returns : tie.Need-returns
 returns c =
-    let a = c .before .before .args in
-    page-no (a .standing) (a .left) (a .buf .now) (omega arith)
+    let a = c .before .before .before .before .before .args in
+    page-no (a .standing) (a .left) (a .buf .now) (omega (arith, c .before .before .lay-out .ensures .0))
 
-put-early-requires : tie.Need-put-early-requires
-put-early-requires c κs = search needs
+array-share-prefix-page : tie.Need-array-share-prefix-page
+array-share-prefix-page c = search needs
+
+slice-aggregate-put-text : tie.Need-slice-aggregate-put-text
+slice-aggregate-put-text c = sym (length-take-le _ _ (search needs))
+
+put-text-requires : tie.Need-put-text-requires
+put-text-requires c κs = let l = c .before .before .before .before .lay-out in omega (arith, length-take (l .result) (l .last .0))
 
 same-length : tie.Need-same-length
 same-length c = search needs
 
 returns-2 : tie.Need-returns-2
 returns-2 c =
-    let a = c .before .before .before .before .before .before .before .args in
-    let e = c .before .before .put-early .ensures in
-    page-yes (a .standing) (a .left) (a .buf .now) early (omega arith) (printed-skipping (a .standing) (a .left) (c .before .before .before .before .if2 .taken)) (omega arith) (e .0) (e .1)
-
-put-early-requires-2 : tie.Need-put-early-requires-2
-put-early-requires-2 c κs = search needs
-
-same-length-2 : tie.Need-same-length-2
-same-length-2 c = search needs
-
-returns-3 : tie.Need-returns-3
-returns-3 c =
-    let a = c .before .before .before .before .before .before .before .before .args in
-    let e = c .before .before .put-early2 .ensures in
-    page-yes (a .standing) (a .left) (a .buf .now) early (omega arith) (printed-left (a .standing) (a .left) (c .before .before .before .before .if3 .taken)) (omega arith) (e .0) (e .1)
-
-put-lines-requires : tie.Need-put-lines-requires
-put-lines-requires c κs = search needs
-
-same-length-3 : tie.Need-same-length-3
-same-length-3 c = search needs
-
-returns-4 : tie.Need-returns-4
-returns-4 c =
-    let a = c .before .before .before .before .before .before .before .before .before .args in
-    let e = c .before .before .put-lines .ensures in
-    page-yes (a .standing) (a .left) (a .buf .now) (lines (a .standing .totals)) (omega arith) (printed-whole (a .standing) (a .left) (omega arith) (omega arith)) (omega (arith, e .0, e .2)) (ap Done (e .0)) (e .1)
+    let a = c .before .before .before .before .before .before .before .before .before .before .args in
+    let l = c .before .before .before .before .before .before .before .lay-out in
+    let p = c .before .before .put-text .ensures in
+    page-yes (a .standing) (a .left) (a .buf .now) (take (l .result) (l .last .0)) (laid-out _ _ _ _ (l .ensures .0) (l .ensures .1)) (simp length-take (omega arith)) (p .0) (p .1)
 
 pub put-page-spec : {M : Type 1} → statement M
 put-page-spec =
     tie.close
     (tie.spec
-    mul-if1
+    slice-aggregate-lay-out
+    lay-out-requires
     returns
-    put-early-requires
+    array-share-prefix-page
+    slice-aggregate-put-text
+    put-text-requires
     same-length
-    returns-2
-    put-early-requires-2
-    same-length-2
-    returns-3
-    put-lines-requires
-    same-length-3
-    returns-4)
+    returns-2)

@@ -1,78 +1,48 @@
--- `week::turn` meets its contract: `piece` took what was left and what was read, and `keep_rest` kept what it did not take.
+-- `week::turn` meets its contract: the read changes nothing of what was left, and it has room.
 -- Assumes nothing.
 use Prim.Native.Nat.{_-_}
-use mathlib.Core.Path.{sym}
+use mathlib.Core.Path.{_≡_}
 use mathlib.Core.List.{_++_}
 use native.Mathlib.Omega.{arith}
-use lib.ListN.{length, take, drop, length-take}
-use lib.Seq.{length-take-le}
+use mir.Syntax.{w64}
+use mir.ValLaws.{toZ-ofZ}
+use lib.ListN.{length, take, drop, length-append, length-drop}
 use borrow.Author.Needs.{needs}
-use Rattle.week.proofs.Turning.{turned-is}
+use Rattle.week.proofs.Turning.{part-long, turned-by}
 use Rattle.week.proofs.turn.Statement.{statement}
 use Rattle.week.proofs.turn.Tie as tie
 
-used-within : tie.Need-sub-t11
-used-within c = let e = rw length-take at (c .before .before .before .before .before .piece .ensures .1) in omega arith
+sub-read : tie.Need-sub-read
+sub-read c = search needs
 
-sub-read-full : tie.Need-sub-read-full
-sub-read-full c = search needs
+part-read-start : tie.Need-part-read-start
+part-read-start c = search needs
 
-part-read-full-start : tie.Need-part-read-full-start
-part-read-full-start c = search needs
+part-read-end : tie.Need-part-read-end
+part-read-end c = search needs
 
-part-read-full-end : tie.Need-part-read-full-end
-part-read-full-end c = search needs
+read-requires : tie.Need-read-requires
+read-requires c κs = search needs
 
-read-full-requires : tie.Need-read-full-requires
-read-full-requires c κs = search needs
-
-add-end : tie.Need-add-end
-add-end c = search needs
-
-slice-reshare-prefix-piece : tie.Need-slice-reshare-prefix-piece
-slice-reshare-prefix-piece c = search needs
-
-slice-aggregate-piece : tie.Need-slice-aggregate-piece
-slice-aggregate-piece c = sym (length-take-le _ _ (search needs))
-
-piece-requires : tie.Need-piece-requires
-piece-requires c κs = search needs
-
-keep-rest-requires : tie.Need-keep-rest-requires
-keep-rest-requires c κs = search needs
-
-sub-t11 : tie.Need-sub-t11
-sub-t11 c = used-within c
+took-requires : tie.Need-took-requires
+took-requires c κs = search needs
 
 same-length : tie.Need-same-length
 same-length c = search needs
 
 returns : tie.Need-returns
 returns c =
-    let a = c .before .before .before .before .before .before .before .before .before .before .before .before .before .args in
-    let r = c .before .before .before .before .before .before .before .before .before .before .read-full in
-    let k = c .before .before .before .before .before .piece in
+    let a = c .before .before .before .before .before .before .before .before .before .args in
+    let r = c .before .before .before .before .before .before .read in
     let xs = a .input .now in
-    let us = r .last .1 .0 ++ drop (length xs - a .place .left) (drop (a .place .left) xs) in
-    record {
-      bytes = take (r .result) us;
-      turned = turned-is (a .place) xs us (r .result) (search needs) (k .result) (c .before .before .before .keep-rest .last .0) (k .ensures .0) (used-within c) (search needs) (c .before .before .before .keep-rest .ensures);
-      within = search needs;
-    }
+    let l = a .place .left in
+    let k : length (r .last .1 .0) ≡ length (take (length xs - l) (drop l xs)) = search needs in
+    let us = r .last .1 .0 ++ drop (length xs - l) (drop l xs) in
+    let n : length us ≡ length (take (length xs - l) (drop l xs)) =
+    omega (arith, k, length-drop (length xs - l) (drop l xs), length-drop l xs, length-append (r .last .1 .0) (drop (length xs - l) (drop l xs))) in
+    turned-by (a .place) xs us (search needs) (omega (arith, n, part-long l xs, length-drop l xs)) (toZ-ofZ w64 (r .result) (search needs)) (rw n (r .ensures)) (c .before .before .took .ensures)
 
 pub turn-spec : {M : Type 1} → statement M
 turn-spec =
     tie.close
-    (tie.spec
-    sub-read-full
-    part-read-full-start
-    part-read-full-end
-    read-full-requires
-    add-end
-    slice-reshare-prefix-piece
-    slice-aggregate-piece
-    piece-requires
-    keep-rest-requires
-    sub-t11
-    same-length
-    returns)
+    (tie.spec sub-read part-read-start part-read-end read-requires took-requires same-length returns)

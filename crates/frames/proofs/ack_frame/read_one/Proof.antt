@@ -9,11 +9,14 @@ use Rattle.frames.proofs.ack_frame.read_one.Tie as tie
 read-number-requires : tie.Need-read-number-requires
 read-number-requires c κs = search needs
 
+enum-known-len : tie.Need-enum-known-len
+enum-known-len c = search needs
+
 enum-told : tie.Need-enum-told
 enum-told c = search needs
 
-enum-known-length : tie.Need-enum-known-length
-enum-known-length c = search needs
+returns : tie.Need-returns
+returns c = both (one-cut _ _ _ _ _ (c .before .before .read-number .ensures) (c .enum-told .given .1))
 
 slice-write-ranges : tie.Need-slice-write-ranges
 slice-write-ranges c = search needs
@@ -21,19 +24,16 @@ slice-write-ranges c = search needs
 slice-write-ranges-2 : tie.Need-slice-write-ranges-2
 slice-write-ranges-2 c = search needs
 
-returns : tie.Need-returns
-returns c = both (one-cut _ _ _ _ _ (c .before .before .read-number .ensures) (c .enum-told .given .1))
-
 returns-2 : tie.Need-returns-2
 returns-2 c =
     let k = c .before .before in
-    both (one-low _ _ _ _ _ (k .before .before .read-number .ensures) (k .length .given .1) (c .if1 .taken))
+    both (one-low _ _ _ _ _ (k .before .before .read-number .ensures) (k .len .given .1) (c .if1 .taken))
 
 returns-3 : tie.Need-returns-3
 returns-3 c =
     let i = c .before in
     let k = i .before .before in
-    both (one-no-room _ _ _ _ _ (k .before .before .read-number .ensures) (k .length .given .1) (i .if1 .left) (c .if2 .taken))
+    both (one-no-room _ _ _ _ _ (k .before .before .read-number .ensures) (k .len .given .1) (i .if1 .left) (c .if2 .taken))
 
 same-length : tie.Need-same-length
 same-length c = search needs
@@ -42,18 +42,18 @@ returns-4 : tie.Need-returns-4
 returns-4 c =
     let i = c .before in
     let k = i .before .before in
-    both (one-accepted _ _ _ _ _ (k .before .before .read-number .ensures) (k .length .given .1) (i .if1 .left) (c .if2 .left))
+    both (one-accepted _ _ _ _ _ (k .before .before .read-number .ensures) (k .len .given .1) (i .if1 .left) (c .if2 .left))
 
 pub read-one-spec : {M : Type 1} → statement M
 read-one-spec =
     tie.close
     (tie.spec
     read-number-requires
+    enum-known-len
     enum-told
-    enum-known-length
+    returns
     slice-write-ranges
     slice-write-ranges-2
-    returns
     returns-2
     returns-3
     same-length

@@ -7,11 +7,11 @@ use denote.Ref.{now}
 use borrow.Author.Tests.{not-true, not-false}
 use mathlib.Core.Bool.{true}
 use Rattle.entries.specs.declared.Profile.{Profile}
-use Rattle.uncut.specs.State.{atEnd}
-use Rattle.pieces.specs.Record.{standIn, stateIn, wordsOf}
+use Rattle.uncut.specs.State.{standing, atEnd}
+use Rattle.pieces.specs.Record.{standIn, stateIn, stateOf, wordsOf}
 use Rattle.pieces.specs.Fitness.{consistent}
 use Rattle.pieces.specs.declared.Marks.{Marks}
-use Rattle.pieces.proofs.Calling.{end-one, end-said, sits-loaded}
+use Rattle.pieces.proofs.Calling.{end-one, end-stands, end-said, sits-loaded}
 use Rattle.pieces.proofs.calls.end.Statement.{statement}
 use Rattle.pieces.proofs.calls.end.Tie as tie
 
@@ -30,6 +30,21 @@ returns c = end-one (now (c .before .before .before .before .args .state)) (sym 
 loaded-requires : tie.Need-loaded-requires
 loaded-requires c κs = search needs
 
+-- what stands, by the words
+stands : (c : tie.After-standing-at) → c .standing-at .result ≡ standing (stateOf (now (c .before .before .before .before .before .before .args .state)))
+stands c =
+    let w = now (c .before .before .before .before .before .before .args .state) in
+    c .standing-at .ensures w ∙ ap (λ (m : Marks). standing (stateIn (standIn m w))) (c .before .loaded .ensures)
+
+standing-at-requires : tie.Need-standing-at-requires
+standing-at-requires c κs = search needs
+
+refused-requires-2 : tie.Need-refused-requires-2
+refused-requires-2 c κs = search needs
+
+returns-2 : tie.Need-returns-2
+returns-2 c = end-stands (now (c .before .before .before .before .before .before .before .before .args .state)) (ok (c .before .before .before .before .before)) _ (stands (c .before .before)) (c .before .if2 .taken) _ (c .refused2 .ensures)
+
 element-copy-out-profile-of : tie.Need-element-copy-out-profile-of
 element-copy-out-profile-of c = search needs
 
@@ -41,21 +56,21 @@ ended-requires c κs = search needs
 
 store-requires : tie.Need-store-requires
 store-requires c κs =
-    let z = sits-loaded (now (c .before .before .before .before .before .before .before .before .before .args .state)) (c .before .before .before .before .loaded .result) (c .before .before .profile-of .result) (c .before .before .before .before .loaded .ensures) (c .before .before .profile-of .ensures) (ok (c .before .before .before .before .before .before)) in
+    let z = sits-loaded (now (c .before .before .before .before .before .before .before .before .before .before .before .args .state)) (c .before .before .before .before .before .before .loaded .result) (c .before .before .profile-of .result) (c .before .before .before .before .before .before .loaded .ensures) (c .before .before .profile-of .ensures) (ok (c .before .before .before .before .before .before .before .before)) in
     (omega (arith, c .before .ended .ensures .1 .0, z .count), omega (arith, c .before .ended .ensures .1 .1, z .carried))
 
 report-at-requires : tie.Need-report-at-requires
 report-at-requires c κs =
-    let z = sits-loaded (now (c .before .before .before .before .before .before .before .before .before .before .before .args .state)) (c .before .before .before .before .before .before .loaded .result) (c .before .before .before .before .profile-of .result) (c .before .before .before .before .before .before .loaded .ensures) (c .before .before .before .before .profile-of .ensures) (ok (c .before .before .before .before .before .before .before .before)) in
+    let z = sits-loaded (now (c .before .before .before .before .before .before .before .before .before .before .before .before .before .args .state)) (c .before .before .before .before .before .before .before .before .loaded .result) (c .before .before .before .before .profile-of .result) (c .before .before .before .before .before .before .before .before .loaded .ensures) (c .before .before .before .before .profile-of .ensures) (ok (c .before .before .before .before .before .before .before .before .before .before)) in
     omega (arith, c .before .before .before .ended .ensures .1 .0, z .count)
 
-returns-2 : tie.Need-returns-2
-returns-2 c =
-    let w = now (c .before .before .before .before .before .before .before .before .before .before .before .before .args .state) in
+returns-3 : tie.Need-returns-3
+returns-3 c =
+    let w = now (c .before .before .before .before .before .before .before .before .before .before .before .before .before .before .args .state) in
     let e = c .before .before .before .before .ended in
     let p = c .before .before .before .before .before .profile-of in
     let stored = c .before .before .store .ensures in
-    end-said w (ok (c .before .before .before .before .before .before .before .before .before)) (stateIn (standIn (e .result) w)) _ _ (e .ensures .0 w ∙ ap (λ (m : Marks). atEnd (stateIn (standIn m w))) (c .before .before .before .before .before .before .before .loaded .ensures)) (c .report-at .ensures (p .result) w stored) (stored ∙ ap (λ (q : Profile). wordsOf q (stateIn (standIn (e .result) w))) (p .ensures))
+    end-said w (ok (c .before .before .before .before .before .before .before .before .before .before .before)) _ (stands (c .before .before .before .before .before .before .before .before)) (c .before .before .before .before .before .before .before .if2 .left) (stateIn (standIn (e .result) w)) _ _ (e .ensures .0 w ∙ ap (λ (m : Marks). atEnd (stateIn (standIn m w))) (c .before .before .before .before .before .before .before .before .before .loaded .ensures)) (c .report-at .ensures (p .result) w stored) (stored ∙ ap (λ (q : Profile). wordsOf q (stateIn (standIn (e .result) w))) (p .ensures))
 
 pub end-spec : {M : Type 1} → statement M
 end-spec =
@@ -65,9 +80,12 @@ end-spec =
     refused-requires
     returns
     loaded-requires
+    standing-at-requires
+    refused-requires-2
+    returns-2
     element-copy-out-profile-of
     profile-of-requires
     ended-requires
     store-requires
     report-at-requires
-    returns-2)
+    returns-3)

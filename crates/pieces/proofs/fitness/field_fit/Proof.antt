@@ -2,7 +2,7 @@
 -- Assumes nothing.
 use borrow.Author.Needs.{needs}
 use mathlib.Core.Path.{sym, _∙_}
-use Rattle.pieces.proofs.Fits.{field-whole, field-read}
+use Rattle.pieces.proofs.Parts.{field-whole, field-read}
 use Rattle.pieces.proofs.fitness.field_fit.Statement.{statement}
 use Rattle.pieces.proofs.fitness.field_fit.Tie as tie
 

@@ -1,40 +1,30 @@
 -- `pieces::fitness::numbers_fit` meets its contract: its tests are the definition's.
 -- Assumes nothing.
 use borrow.Author.Needs.{needs}
-use mathlib.Core.Path.{sym, _∙_}
-use Rattle.pieces.proofs.Fits.{numbers-large, numbers-small}
+use mathlib.Core.Path.{sym, ap, _∙_}
+use denote.Ref.{now}
+use borrow.Author.Tests.{not-true, not-false}
+use Prim.Native.Nat.{ℕ}
+use lib.Dec.{eqb}
+use Rattle.pieces.proofs.Parts.{numbers-large, numbers-judged}
 use Rattle.pieces.proofs.fitness.numbers_fit.Statement.{statement}
 use Rattle.pieces.proofs.fitness.numbers_fit.Tie as tie
 
-length-of-requires : tie.Need-length-of-requires
-length-of-requires c κs = search needs
-
-enum-told : tie.Need-enum-told
-enum-told c = search needs
-
-enum-told-2 : tie.Need-enum-told-2
-enum-told-2 c = search needs
+all-small-requires : tie.Need-all-small-requires
+all-small-requires c κs = search needs
 
 returns : tie.Need-returns
-returns c = numbers-large _ _ (sym (c .before .before .length-of .ensures) ∙ c .enum-told2 .given .1)
+returns c =
+    let a = c .before .before .before .args in
+    numbers-large (a .profile) (now (a .numbers)) (sym (c .before .all-small .ensures) ∙ not-true _ (c .if1 .taken))
 
-number-at-requires : tie.Need-number-at-requires
-number-at-requires c κs = search needs
-
-most-metrics-requires : tie.Need-most-metrics-requires
-most-metrics-requires c κs = search needs
+first-fault-requires : tie.Need-first-fault-requires
+first-fault-requires c κs = search needs
 
 returns-2 : tie.Need-returns-2
-returns-2 c = rw (c .before .number-at .ensures, c .most-metrics .ensures .0) (numbers-small _ _ _ (sym (c .before .before .before .before .length-of .ensures) ∙ c .before .before .enum-told .given .1))
+returns-2 c =
+    let a = c .before .before .before .before .args in
+    ap (λ (x : ℕ). eqb x 0) (c .first-fault .ensures) ∙ numbers-judged (a .profile) (now (a .numbers)) (sym (c .before .before .all-small .ensures) ∙ not-false _ (c .before .if1 .left))
 
 pub numbers-fit-spec : {M : Type 1} → statement M
-numbers-fit-spec =
-    tie.close
-    (tie.spec
-    length-of-requires
-    enum-told
-    enum-told-2
-    returns
-    number-at-requires
-    most-metrics-requires
-    returns-2)
+numbers-fit-spec = tie.close (tie.spec all-small-requires returns first-fault-requires returns-2)

@@ -1,33 +1,60 @@
 -- `pieces::fitness::rows_fit` meets its contract: its tests are the definition's.
 -- Assumes nothing.
 use borrow.Author.Needs.{needs}
-use borrow.Author.Tests.{lt-leb, le-leb}
-use Rattle.pieces.specs.Fitness.{rowsFit}
+use mathlib.Core.Path.{sym, _∙_}
+use denote.Ref.{now}
+use borrow.Author.Tests.{not-true, not-false}
+use Rattle.pieces.proofs.Parts.{rows-part, rows-more, rows-misplaced, rows-over, rows-last}
 use Rattle.pieces.proofs.fitness.rows_fit.Statement.{statement}
 use Rattle.pieces.proofs.fitness.rows_fit.Tie as tie
 
+is-whole-requires : tie.Need-is-whole-requires
+is-whole-requires c κs = search needs
+
 returns : tie.Need-returns
-unfolding rowsFit
-returns c = simp (lt-leb _ _ (c .if1 .taken))
+returns c =
+    let a = c .before .before .before .args in
+    rows-part (a .profile) (now (a .numbers)) (a .left) (a .last) (a .above) (a .carried) (sym (c .before .is-whole .ensures) ∙ not-true _ (c .if1 .taken))
+
+last-of-requires : tie.Need-last-of-requires
+last-of-requires c κs = search needs
 
 returns-2 : tie.Need-returns-2
-unfolding rowsFit
-returns-2 c = simp (le-leb _ _ (c .before .if1 .left), lt-leb _ _ (c .if2 .taken))
+returns-2 c =
+    let a = c .before .before .before .before .before .args in
+    rows-more (a .profile) (now (a .numbers)) (sym (c .before .before .before .is-whole .ensures) ∙ not-false _ (c .before .before .if1 .left)) _ (c .before .last-of .ensures) (a .left) (a .last) (a .above) (a .carried) (c .if2 .taken)
 
-add-if3 : tie.Need-add-if3
-add-if3 c = search needs
+place-fit-requires : tie.Need-place-fit-requires
+place-fit-requires c κs = search needs
 
 returns-3 : tie.Need-returns-3
-unfolding rowsFit
-returns-3 c = simp (le-leb _ _ (c .before .before .if1 .left), le-leb _ _ (c .before .if2 .left), lt-leb _ _ (c .if3 .taken))
+returns-3 c =
+    let a = c .before .before .before .before .before .before .before .args in
+    rows-misplaced (a .profile) (now (a .numbers)) (sym (c .before .before .before .before .before .is-whole .ensures) ∙ not-false _ (c .before .before .before .before .if1 .left)) _ (c .before .before .before .last-of .ensures) (a .left) (a .last) (a .above) (a .carried) (c .before .before .if2 .left) (sym (c .before .place-fit .ensures) ∙ not-true _ (c .if3 .taken))
+
+returns-4 : tie.Need-returns-4
+returns-4 c =
+    let a = c .before .before .before .before .before .before .before .before .args in
+    rows-over (a .profile) (now (a .numbers)) (sym (c .before .before .before .before .before .before .is-whole .ensures) ∙ not-false _ (c .before .before .before .before .before .if1 .left)) _ (c .before .before .before .before .last-of .ensures) (a .left) (a .last) (a .above) (a .carried) (c .before .before .before .if2 .left) (sym (c .before .before .place-fit .ensures) ∙ not-false _ (c .before .if3 .left)) (c .if4 .taken)
 
 record-size-requires : tie.Need-record-size-requires
 record-size-requires c κs = search needs
 
-returns-4 : tie.Need-returns-4
-unfolding rowsFit
-returns-4 c = simp (le-leb _ _ (c .before .before .before .if1 .left), le-leb _ _ (c .before .before .if2 .left), le-leb _ _ (c .before .if3 .left), c .record-size .ensures)
+returns-5 : tie.Need-returns-5
+returns-5 c =
+    let a = c .before .before .before .before .before .before .before .before .before .args in
+    rows-last (a .profile) (now (a .numbers)) (sym (c .before .before .before .before .before .before .before .is-whole .ensures) ∙ not-false _ (c .before .before .before .before .before .before .if1 .left)) _ (c .before .before .before .before .before .last-of .ensures) (a .left) (a .last) (a .above) (a .carried) (c .before .before .before .before .if2 .left) (sym (c .before .before .before .place-fit .ensures) ∙ not-false _ (c .before .before .if3 .left)) (c .before .if4 .left) _ (c .record-size .ensures)
 
 pub rows-fit-spec : {M : Type 1} → statement M
 rows-fit-spec =
-    tie.close (tie.spec returns returns-2 add-if3 returns-3 record-size-requires returns-4)
+    tie.close
+    (tie.spec
+    is-whole-requires
+    returns
+    last-of-requires
+    returns-2
+    place-fit-requires
+    returns-3
+    returns-4
+    record-size-requires
+    returns-5)

@@ -3,7 +3,7 @@
 use borrow.Author.Needs.{needs}
 use mathlib.Core.Path.{_≡_, refl, sym, ap, _∙_}
 use mathlib.Core.Bool.{Bool, true, false}
-use Prim.Native.Nat.{ℕ, _+_, _-_, _%_, _≤_, _<_}
+use Prim.Native.Nat.{ℕ, _+_, _-_, _%_, _≤_, _<_, zero-le}
 use mathlib.Core.List.{List, [], _∷_}
 use native.Mathlib.Numerals.{add-one}
 use native.Mathlib.Omega.{arith}
@@ -33,17 +33,38 @@ eight p a b c d e f g h vs = go (eqb c (d + e + f)) (leb h (mostMetrics p))
     go true false = refl
     go false m = refl
 
-fixed-first : (p : Profile) (ns : List ℕ) → 8 ≤ length ns
+-- fewer than six bring none: the first that can is the sixth
+few-first : (p : Profile) (ns : List ℕ) → length ns ≤ 5 → 0 ≡ firstFault p ns
+unfolding faultAfter judge
+few-first p [] l = refl
+few-first p (a ∷ []) l = refl
+few-first p (a ∷ b ∷ []) l = refl
+few-first p (a ∷ b ∷ c ∷ []) l = refl
+few-first p (a ∷ b ∷ c ∷ d ∷ []) l = refl
+few-first p (a ∷ b ∷ c ∷ d ∷ e ∷ []) l = refl
+few-first p (a ∷ b ∷ c ∷ d ∷ e ∷ f ∷ vs) l = absurd (omega arith)
+
+-- six or seven: the sum alone
+sum-first : (p : Profile) (c d e f : ℕ) → _≡_ {A = ℕ} (pick (eqb (pick (eqb c (d + e + f)) 0 11) 0) 0 (pick (eqb c (d + e + f)) 0 11)) (pick (eqb c (d + e + f)) (pick (leb 0 (mostMetrics p)) 0 10) 11)
+sum-first p c d e f = go (eqb c (d + e + f)) (leb 0 (mostMetrics p)) (le-leb 0 (mostMetrics p) zero-le)
+  where
+    go : (s m : Bool) → m ≡ true → _≡_ {A = ℕ} (pick (eqb (pick s 0 11) 0) 0 (pick s 0 11)) (pick s (pick m 0 10) 11)
+    go true true t = refl
+    go true false t = let z : _≡_ {A = ℕ} 0 1 = cc in absurd (omega arith)
+    go false m t = refl
+
+fixed-first : (p : Profile) (ns : List ℕ) → 6 ≤ length ns
     → firstFault p ns ≡ pick (eqb (getD ns 2 0) (getD ns 3 0 + getD ns 4 0 + getD ns 5 0)) (pick (leb (getD ns 7 0) (mostMetrics p)) (faultAfter p (take 8 ns) (drop 8 ns)) 10) 11
+unfolding faultAfter judge
 fixed-first p (a ∷ b ∷ c ∷ d ∷ e ∷ f ∷ g ∷ h ∷ vs) l = eight p a b c d e f g h vs
+fixed-first p (a ∷ b ∷ c ∷ d ∷ e ∷ f ∷ g ∷ []) l = sum-first p c d e f
+fixed-first p (a ∷ b ∷ c ∷ d ∷ e ∷ f ∷ []) l = sum-first p c d e f
 fixed-first p [] l = absurd (omega arith)
 fixed-first p (a ∷ []) l = absurd (omega arith)
 fixed-first p (a ∷ b ∷ []) l = absurd (omega arith)
 fixed-first p (a ∷ b ∷ c ∷ []) l = absurd (omega arith)
 fixed-first p (a ∷ b ∷ c ∷ d ∷ []) l = absurd (omega arith)
 fixed-first p (a ∷ b ∷ c ∷ d ∷ e ∷ []) l = absurd (omega arith)
-fixed-first p (a ∷ b ∷ c ∷ d ∷ e ∷ f ∷ []) l = absurd (omega arith)
-fixed-first p (a ∷ b ∷ c ∷ d ∷ e ∷ f ∷ g ∷ []) l = absurd (omega arith)
 
 -- ---- those behind, two by two: a type or the entry count, and a value, which brings nothing
 
@@ -93,7 +114,7 @@ module _ (p : Profile) (ns : List ℕ) (i r f : ℕ) (b : 8 ≤ i) (o : i % 2 �
       (rw m at (sym v)) ∙ q
 
 -- what the code has found so far: the sum does not hold, there are too many metrics, or neither
-module _ (p : Profile) (ns : List ℕ) (l : 8 ≤ length ns) (s : Bool) (e : s ≡ eqb (getD ns 2 0) (getD ns 3 0 + getD ns 4 0 + getD ns 5 0)) where
+module _ (p : Profile) (ns : List ℕ) (l : 6 ≤ length ns) (s : Bool) (e : s ≡ eqb (getD ns 2 0) (getD ns 3 0 + getD ns 4 0 + getD ns 5 0)) where
   sum-wrong : s ≡ false → 11 ≡ firstFault p ns
   sum-wrong f = sym (fixed-first p ns l ∙ rw (← e, f))
 
@@ -110,6 +131,11 @@ Inv-loop profile numbers most i₀ i = (8 ≤ i) × ((i % 2 ≡ 0) × (faultAfte
 abbrev μ-loop : tie.MeasureT-loop
 μ-loop profile numbers most i₀ i = length numbers - i
 
+returns : tie.Need-returns Inv-loop μ-loop
+returns c =
+    let a = c .before .before .args in
+    few-first (a .profile) (now (a .numbers)) (c .if1 .taken)
+
 shared-slice-read-adds-up : tie.Need-shared-slice-read-adds-up Inv-loop μ-loop
 shared-slice-read-adds-up c = search needs
 
@@ -125,26 +151,26 @@ shared-slice-read-adds-up-4 c = search needs
 adds-up-requires : tie.Need-adds-up-requires Inv-loop μ-loop
 adds-up-requires c κs = search needs
 
-returns : tie.Need-returns Inv-loop μ-loop
-returns c =
-    let a = c .before .before .before .before .before .before .before .args in
-    sum-wrong (a .profile) (now (a .numbers)) (c .before .before .before .before .before .before .before .pre) _ (c .before .adds-up .ensures) (not-true _ (c .if1 .taken))
+returns-2 : tie.Need-returns-2 Inv-loop μ-loop
+returns-2 c =
+    let a = c .before .before .before .before .before .before .before .before .args in
+    sum-wrong (a .profile) (now (a .numbers)) (c .before .before .before .before .before .before .if1 .left) _ (c .before .adds-up .ensures) (not-true _ (c .if2 .taken))
 
 most-metrics-requires : tie.Need-most-metrics-requires Inv-loop μ-loop
 most-metrics-requires c κs = search needs
 
-shared-slice-read-if2 : tie.Need-shared-slice-read-if2 Inv-loop μ-loop
-shared-slice-read-if2 c = search needs
+number-at-requires : tie.Need-number-at-requires Inv-loop μ-loop
+number-at-requires c κs = search needs
 
-returns-2 : tie.Need-returns-2 Inv-loop μ-loop
-returns-2 c =
-    let a = c .before .before .before .before .before .before .before .before .before .before .args in
-    too-many (a .profile) (now (a .numbers)) (c .before .before .before .before .before .before .before .before .before .before .pre) _ (c .before .before .before .before .adds-up .ensures) (not-false _ (c .before .before .before .if1 .left)) _ (c .before .before .most-metrics .ensures .0) (c .if2 .taken)
+returns-3 : tie.Need-returns-3 Inv-loop μ-loop
+returns-3 c =
+    let a = c .before .before .before .before .before .before .before .before .before .before .before .args in
+    too-many (a .profile) (now (a .numbers)) (c .before .before .before .before .before .before .before .before .before .if1 .left) _ (c .before .before .before .before .adds-up .ensures) (not-false _ (c .before .before .before .if2 .left)) _ (c .before .before .most-metrics .ensures .0) (rw (c .before .number-at .ensures) at (c .if3 .taken))
 
 loop-holds : tie.Need-loop-holds Inv-loop μ-loop
 loop-holds c =
-    let a = c .before .before .before .before .before .before .before .before .before .before .args in
-    (search needs, (refl, goes-on (a .profile) (now (a .numbers)) (c .before .before .before .before .before .before .before .before .before .before .pre) _ (c .before .before .before .before .adds-up .ensures) (not-false _ (c .before .before .before .if1 .left)) _ (c .before .before .most-metrics .ensures .0) (c .if2 .left)))
+    let a = c .before .before .before .before .before .before .before .before .before .before .before .args in
+    (search needs, (refl, goes-on (a .profile) (now (a .numbers)) (c .before .before .before .before .before .before .before .before .before .if1 .left) _ (c .before .before .before .before .adds-up .ensures) (not-false _ (c .before .before .before .if2 .left)) _ (c .before .before .most-metrics .ensures .0) (rw (c .before .number-at .ensures) at (c .if3 .left))))
 
 slice-aggregate-judge-later : tie.Need-slice-aggregate-judge-later Inv-loop μ-loop
 slice-aggregate-judge-later c = sym (length-take-le _ _ (search needs))
@@ -158,10 +184,10 @@ shared-slice-read-judge-later c = search needs
 judge-later-requires : tie.Need-judge-later-requires Inv-loop μ-loop
 judge-later-requires c κs = still-fixed _ _ (c .before .before .before .loop .inv .0) (c .before .before .loop-test .taken)
 
-returns-3 : tie.Need-returns-3 Inv-loop μ-loop
-returns-3 c =
+returns-4 : tie.Need-returns-4 Inv-loop μ-loop
+returns-4 c =
     let l = c .before .before .before .before .before .loop .inv in
-    stop _ _ _ _ _ (l .0) (l .1 .0) (c .before .before .before .before .loop-test .taken) (c .before .judge-later .ensures) (c .if3 .taken) (l .1 .1)
+    stop _ _ _ _ _ (l .0) (l .1 .0) (c .before .before .before .before .loop-test .taken) (c .before .judge-later .ensures) (c .if4 .taken) (l .1 .1)
 
 add-i : tie.Need-add-i Inv-loop μ-loop
 add-i c = search needs
@@ -172,10 +198,10 @@ loop-less c = search needs
 loop-again : tie.Need-loop-again Inv-loop μ-loop
 loop-again c =
     let l = c .before .before .before .before .before .loop .inv in
-    (omega arith, (omega arith, more _ _ _ _ _ (l .0) (l .1 .0) (c .before .before .before .before .loop-test .taken) (c .before .judge-later .ensures) (c .if3 .left) (l .1 .1)))
+    (omega arith, (omega arith, more _ _ _ _ _ (l .0) (l .1 .0) (c .before .before .before .before .loop-test .taken) (c .before .judge-later .ensures) (c .if4 .left) (l .1 .1)))
 
-returns-4 : tie.Need-returns-4 Inv-loop μ-loop
-returns-4 c = sym (done _ _ _ (c .loop-test .left)) ∙ c .before .loop .inv .1 .1
+returns-5 : tie.Need-returns-5 Inv-loop μ-loop
+returns-5 c = sym (done _ _ _ (c .loop-test .left)) ∙ c .before .loop .inv .1 .1
 
 pub first-fault-spec : {M : Type 1} → statement M
 first-fault-spec =
@@ -183,22 +209,23 @@ first-fault-spec =
     (tie.spec
     Inv-loop
     μ-loop
+    returns
     shared-slice-read-adds-up
     shared-slice-read-adds-up-2
     shared-slice-read-adds-up-3
     shared-slice-read-adds-up-4
     adds-up-requires
-    returns
-    most-metrics-requires
-    shared-slice-read-if2
     returns-2
+    most-metrics-requires
+    number-at-requires
+    returns-3
     loop-holds
     slice-aggregate-judge-later
     mul-judge-later
     shared-slice-read-judge-later
     judge-later-requires
-    returns-3
+    returns-4
     add-i
     loop-less
     loop-again
-    returns-4)
+    returns-5)

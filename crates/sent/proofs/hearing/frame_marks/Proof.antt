@@ -9,6 +9,7 @@ use Rattle.frames.specs.Ack.{Ranges, rangesFrom, IsWhole}
 use Rattle.frames.proofs.Ranges.{some}
 use Rattle.frames.proofs.Steps.{step-cut, step-low, step-last, step-more, whole-no-cut, whole-no-low}
 use Rattle.frames.proofs.Check.{step-falls}
+use Rattle.marks.proofs.Ranges.{range-long}
 use Rattle.sent.specs.Heard.{FrameMarks, within}
 use Rattle.sent.proofs.Marking.{Marked, marked-none, marked-more, marked-last}
 use Rattle.sent.proofs.hearing.frame_marks.Statement.{statement}
@@ -96,7 +97,7 @@ loop-again c =
     let m : l .loop .high < s .args .floor + 1024 = omega (arith, l .loop .inv .0, s .pre .0) in (
       omega (arith, l .loop .inv .0, f .1),
       subst IsWhole (sym (ap (λ (x : Ranges). x .walk) e)) (l .loop .inv .1),
-      a .add-range .ensures .long ∙ n,
+      ap length (a .add-range .ensures) ∙ range-long _ _ _ ∙ n,
       marked-more (l .loop .words) (a .add-range .last .0) (s .args .floor) _ (l .loop .high) (a .before .larger .result) n m (a .before .larger .ensures) (a .add-range .ensures) b w (l .loop .inv .3) e,
     )
 
