@@ -82,7 +82,7 @@ def proofs(register):
     """For "X proved as Y" the declared type of Y is X."""
     for row in register.rows:
         for statement, theorem in row.proofs():
-            if not sources.states(theorem.path, theorem.name, statement.name):
+            if not sources.states((theorem.path, theorem.name), (statement.path, statement.name)):
                 stated = sources.type_of(theorem.path, theorem.name)
                 yield f"{row.at()}: {theorem.name} does not state {statement.name}: it states {stated[:80] or 'nothing'}"
 

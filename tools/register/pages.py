@@ -99,7 +99,3 @@ def with_lines(page, text):
         return f"[{match[1]}]({match[2]}#L{line})" if line else match[0]
 
     return LINK.sub(mended, text)
-
-
-def title_of(text):
-    return re.search(r"^# (.*)", text, re.M)[1]

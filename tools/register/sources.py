@@ -68,12 +68,17 @@ def type_of(path, name):
     return text.strip()
 
 
-def states(path, name, statement):
-    """Whether the theorem's declared type is the statement, or an application of it: `name : statement` or `name : statement a (b c)`."""
+def states(theorem, statement):
+    """Whether a theorem's declared type is a statement, or an application of it: `name : statement` or `name : statement a (b c)`. Both are file and
+    name: of two statements with one name it is the one that the theorem's file brings in."""
+    path, name = theorem
     text = type_of(path, name)
-    while "(" in text and re.search(r"\([^()]*\)", text):
+    while re.search(r"\([^()]*\)", text):
         text = re.sub(r"\([^()]*\)", "_", text)
-    return bool(re.fullmatch(rf"(?:[\w-]+\.)?{re.escape(statement)}(?: [\w.'-]+)*", text))
+    head = re.fullmatch(r"(?:([\w-]+)\.)?([\w'-]+)(?: [\w.'-]+)*", text)
+    if not head:
+        return False
+    return statement == ((touches.modules(path).get(head[1]), head[2]) if head[1] else touches.known(path).get(head[2]))
 
 
 # ---- functions, each as (file, name), the name as the prover has it: Type::name, module::name, or name in lib and main

@@ -98,7 +98,14 @@ class Found(unittest.TestCase):
         self.assert_found(checks.proofs, altered(LOSSES, cell, cell.replace(proof, other)), "none-rises does not state TotalsAddUp")
 
     def test_example_is_no_proof_of_a_definition(self):
-        self.assertFalse(sources.states("crates/wire/proofs/Examples.antt", "longer", "readNumber"))
+        longer = ("crates/wire/proofs/Examples.antt", "longer")
+        self.assertIn("readNumber", sources.type_of(*longer))
+        self.assertFalse(sources.states(longer, ("crates/wire/specs/Numbers.antt", "readNumber")))
+
+    def test_statement_of_the_same_name_elsewhere(self):
+        told = ("crates/tracked/proofs/After.antt", "told")
+        self.assertTrue(sources.states(told, ("crates/tracked/specs/Told.antt", "Told")))
+        self.assertFalse(sources.states(told, ("crates/promises/specs/Told.antt", "Told")))
 
     def test_statement_without_a_theorem(self):
         cell = cell_of(LOSSES, "add up to the number sent")
