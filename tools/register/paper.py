@@ -85,6 +85,19 @@ def left_out(section, spans):
     return found
 
 
+def beside(sentences, papers):
+    """Where the file of sentences and the papers part: None where their words are the same, or what each has there. What is quoted besides is left out."""
+    own = sentences[sentences.index("## Document ") :].split("\n## Quoted besides\n")[0]
+    own = re.sub(r"(?m)^  - no row.*$|^- |^#+ (?:Document \d+: )?", "", own).split()
+    text = re.sub(r"(?m)^\|\s*-.*$|^```$", "", "\n".join(papers))
+    text = re.sub(r"(?m)^\| (\S+) \| (.*) \|$", r"\1: \2", text)
+    theirs = re.sub(r"(?m)^- |^#+ |\*\*", "", text).split()
+    at = next((i for i, (a, b) in enumerate(zip(own, theirs)) if a != b), min(len(own), len(theirs)))
+    if own == theirs:
+        return None
+    return " ".join(own[max(at - 4, 0) : at + 4]), " ".join(theirs[max(at - 4, 0) : at + 4])
+
+
 def words_of(text):
     """The words of a quotation as they are compared: in small letters, with a | where `..` or `[our words]` stand."""
     return re.sub(r"\s+", " ", re.sub(r"\[[^]]*\]|\.\.", "|", text)).lower()

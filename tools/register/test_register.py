@@ -71,6 +71,14 @@ class Found(unittest.TestCase):
         added = altered(paper.SENTENCES, "### No. 14.", "- It also sings.\n\n### No. 14.")
         self.assert_found(checks.words, added, 'no row takes "It also sings"')
 
+    def test_papers_word_for_word(self):
+        papers = ["# Rules\n\nIt **opens**. It\ncloses.\n\n## Numbers\n\n| No. | When |\n|---|---|\n| 1 | always |\n\n- a point", "# Requests\n\n```\n0 0\n```\n"]
+        text = "# The sentences\n\n## Document 01: Rules\n\n- It opens.\n  - no row: why\n- It closes.\n\n### Numbers\n\n- No.: When\n- 1: always\n- a point\n\n## Document 02: Requests\n\n- 0 0\n\n## Quoted besides\n\n- more\n"
+        self.assertIsNone(paper.beside(text, papers))
+        self.assertEqual(paper.beside(text.replace("always", "never"), papers), ("Numbers No.: When 1: never a point Requests", "Numbers No.: When 1: always a point Requests"))
+        self.assertIsNotNone(paper.beside(text.replace("- a point\n", ""), papers))
+        self.assertIsNotNone(paper.beside(text, papers[:1]))
+
     def test_row_and_reason(self):
         both = altered(paper.SENTENCES, "- The floor never falls.\n", "- The floor never falls.\n  - no row: it is plain\n")
         self.assert_found(checks.words, both, "it has a row, and a reason why it has none")
