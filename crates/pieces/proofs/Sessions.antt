@@ -20,7 +20,7 @@ use Rattle.report.specs.Header.{judgeField, wantedOf, countOf}
 use Rattle.uncut.specs.State.{State, Numbers, Records, Counting, Refused, Accepted, start, standing}
 use Rattle.uncut.specs.Step.{groupIn, aboveIn, afterBad, withNumber, fieldGrown, recordJudged, recordGrown, step, after}
 use Rattle.uncut.specs.Cutting.{closed, taking}
-use Rattle.uncut.proofs.All.{moves}
+use Rattle.uncut.proofs.All.{moves, stands-closed, closed-takes}
 use Rattle.pieces.specs.Record.{stateOf, wordsOf}
 use Rattle.pieces.specs.Fitness.{fit}
 use Rattle.pieces.specs.Calls.{openAfter, takeAnswer, takeAfter, takeBytes}
@@ -109,8 +109,9 @@ module _ (p : Profile) where
     stands-still : (st : State) → Kept p st → (part : List ℕ) (m : ℕ) → standing st ≡ suc m → Ended p (wordsOf p st) (with-part part)
     stands-still st k part m q =
         let a : takeAnswer (wordsOf p st) part (length xs) .result ≡ suc m = answer-stood p st k part xs f m q in
+        let t : takeAnswer (wordsOf p st) part (length xs) .taken ≡ 0 = answer-taken p st k part xs f ∙ closed-takes p (length xs) st part (stands-closed st (λ z. not-zero m (sym q ∙ z))) in
         let b : standing (stateOf (wordsOf p st)) ≡ suc m = ap standing (words-back p st k) ∙ q in
-        record { words = wordsOf p st; out = []; session = shut {w = wordsOf p st} part xs (λ z. not-zero m (sym a ∙ z)); handed = refused {w = wordsOf p st} (λ z. not-zero m (sym b ∙ z)) }
+        record { words = wordsOf p st; out = []; session = shut {w = wordsOf p st} part xs (λ z. not-zero m (sym a ∙ z)) t; handed = refused {w = wordsOf p st} (λ z. not-zero m (sym b ∙ z)) }
 
     goes-on : (st : State) (k : Kept p st) (part : List ℕ) → 0 < taking p (length xs) st part
         → Ended p (wordsOf p (after p st (take (taking p (length xs) st part) part))) (with-part (drop (taking p (length xs) st part) part)) → Ended p (wordsOf p st) (with-part part)

@@ -24,14 +24,15 @@ Hold p [] = Unit
 Hold p (part ∷ parts) = (Octets (part .bytes) × (recordSize p ≤ length (part .buffer))) × Hold p parts
 
 -- the calls of a session, from the words w on, and what they wrote: each takes a byte, so they are no more than the bytes. A call that is
--- refused ends it: 0 is no refusal
+-- refused and takes nothing ends it: a refusal stands
 pub data Session (p : Profile) : List ℕ → List Part → List ℕ → List ℕ → Type 0 where
   over : {w : List ℕ} → Session p w [] w []
   next : {w w' out : List ℕ} {parts : List Part} (xs : List ℕ) → Session p w parts w' out → Session p w (record { bytes = []; buffer = xs } ∷ parts) w' out
   call : {w w' out : List ℕ} {parts : List Part} (part xs : List ℕ) → 0 < takeAnswer w part (length xs) .taken
       → Session p (takeAfter w part (length xs)) (record { bytes = drop (takeAnswer w part (length xs) .taken) part; buffer = xs } ∷ parts) w' out
       → Session p w (record { bytes = part; buffer = xs } ∷ parts) w' (take (recordSize p * takeAnswer w part (length xs) .records) (takeBytes w part xs) ++ out)
-  shut : {w : List ℕ} {parts : List Part} (part xs : List ℕ) → (takeAnswer w part (length xs) .result ≡ 0 → ⊥) → Session p w (record { bytes = part; buffer = xs } ∷ parts) w []
+  shut : {w : List ℕ} {parts : List Part} (part xs : List ℕ) → (takeAnswer w part (length xs) .result ≡ 0 → ⊥) → takeAnswer w part (length xs) .taken ≡ 0
+      → Session p w (record { bytes = part; buffer = xs } ∷ parts) w []
 
 -- a session, and that it hands the report in
 pub record Ended (p : Profile) (w : List ℕ) (parts : List Part) : Type 0 where
