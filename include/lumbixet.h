@@ -3,8 +3,8 @@
  * Every call takes any bytes and any numbers, ends, and keeps nothing between calls. `result` is 0 for
  * accepted, or the refusal number of document 01 (LUMBIXET_..., below). A refused call hands the record
  * back as it came, or leaves a lent one as it was, and writes no element of a lent buffer; lumbixet_pieces.h says where a
- * report in pieces differs. What else it answers is then 0; the one call without a result, lumbixet_find_entries, says itself what it
- * answers of a refused report.
+ * report in pieces differs. What else it answers is then 0. Calls without a result, as lumbixet_find_entries, say
+ * themselves what they answer.
  *
  * A pointer with its length names that many elements, all readable, and writable where the pointer is not
  * const; with length 0 the pointer must still not be NULL. Two lent parts of one call must not overlap.

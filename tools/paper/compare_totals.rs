@@ -6,7 +6,7 @@ use crate::random::Random;
 use crate::refusals::{ACCEPTED, ENDS, NO_ROOM, TOO_LONG};
 use crate::tally::{Call, Lent, Tally};
 use crate::week::{Week, LONGEST, PLACES};
-use crate::weeks::{damaged, report, with_length};
+use crate::weeks::{damaged, long_list, report, with_length};
 
 pub fn round(random: &mut Random, tally: &mut Tally) -> Result<(), String> {
     let opened = WeekTotals { sums: [0; PLACES], full: [0; PLACES], skip: 0 };
@@ -55,7 +55,7 @@ fn with(tally: &mut Tally, given: &WeekTotals, week: &Week) -> WeekTotals {
     next
 }
 
-/// Good, damaged, in a longer form, or around the longest that is read.
+/// Good, damaged, in a longer form, around the longest that is read, or around the most entries.
 fn some_report(random: &mut Random) -> Vec<u8> {
     match random.below(20) {
         0 => {
@@ -65,6 +65,7 @@ fn some_report(random: &mut Random) -> Vec<u8> {
         // a first number below 64 in two bytes
         1 => [&[0x40, random.below(64) as u8], &report(random, 5000)[..]].concat(),
         2..=9 => damaged(random),
+        10 => long_list(random),
         _ => report(random, 5000),
     }
 }

@@ -25,7 +25,7 @@ pub fn made_up(random: &mut Random, tally: &mut Tally) -> Result<(), String> {
         let time = time_near(random, &given);
         compare_report(random, tally, &given, time)?;
     }
-    if random.chance(8) {
+    if random.chance(20) {
         let time = time_near(random, &given);
         report_at_every_room(random, tally, &given, time)?;
     }

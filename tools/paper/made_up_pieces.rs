@@ -242,12 +242,17 @@ pub fn break_clause(random: &mut Random, raw: &mut Raw, clause: usize) -> bool {
         17 if stage == IN_NUMBERS => (raw.stage, raw.left) = (COUNTING, random.below(2)),
         18 if stage == IN_NUMBERS => raw.stage = ENDED,
         19 if some_came && profile == Profile::One => raw.group = random.one_of(&[1, 5, LARGEST, above]),
-        20 if stage == IN_ENTRIES && raw.left == entries => {
+        20 if stage == IN_ENTRIES => {
+            (raw.left, raw.carried) = (entries, 0);
             (raw.group, raw.above) = random.one_of(&[(1, 0), (0, 1), (1, 1), (LARGEST, 5)]);
         }
-        21 if stage == IN_ENTRIES && raw.left == 0 => raw.carried = random.between(1, record - 1),
-        22 if stage == COUNTING => {
-            raw.left = random.one_of(&[record * entries, record * (entries - 1) + 1, 1 << 32, u64::MAX]);
+        // all came, and the last of them has a place
+        21 if stage == IN_ENTRIES => {
+            (raw.left, raw.above, raw.carried) = (0, raw.above.max(entries.min(1)), random.between(1, record - 1));
+        }
+        22 if headed && entries > 0 => {
+            let most = record * (entries - 1);
+            (raw.stage, raw.left) = (COUNTING, random.one_of(&[most + 1, most + record, 1 << 32, u64::MAX]));
         }
         _ => return false,
     }

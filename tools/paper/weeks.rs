@@ -86,7 +86,7 @@ pub fn report(random: &mut Random, largest: u64) -> Vec<u8> {
 }
 
 /// A report of 51 to 202 entries, at the edges of the count's two lengths and of the limit; one above 200 no writer makes.
-fn long_list(random: &mut Random) -> Vec<u8> {
+pub fn long_list(random: &mut Random) -> Vec<u8> {
     let count = random.one_of(&[51, 63, 64, 65, 199, 200, 201, 202]);
     let records = records(random, count);
     if count <= MOST_ENTRIES {
