@@ -37,8 +37,8 @@ Says what a receiver of a live hearing answers, and what frames and reports hold
   report FILE..     reads feedback reports, field by field, and their entries
   week [FILE..]     adds up a week's feedback reports: one page
 
-  --help            says this; after a command, what that command takes
-  --version         prints the version
+  -h, --help        says this; after a command, what that command takes
+  -V, --version     prints the version
 
 - in place of a FILE is standard input.
 ";
@@ -54,8 +54,8 @@ one, and for -, it reads standard input, and answers what has come.
   --json            prints one object a line, for machines
   --picture OUT     also draws the hearing, as SVG, to the file OUT
   --strict          exit status 1 where a record was refused
-  --help            says this
-  --version         prints the version
+  -h, --help        says this
+  -V, --version     prints the version
 ";
 
 const FRAME: &str = "lumbixet frame [OPTION..] HEX|FILE..
@@ -67,8 +67,8 @@ a name like digits, say ./02). - is standard input.
 
   --json            prints one object a line, for machines
   --strict          exit status 1 where a frame was refused
-  --help            says this
-  --version         prints the version
+  -h, --help        says this
+  -V, --version     prints the version
 ";
 
 const REPORT: &str = "lumbixet report [OPTION..] FILE..
@@ -79,8 +79,8 @@ or what was refused and where. - is standard input.
   --profile N       the profile of the reports: 1, or 2 for entries with a group; without it 1
   --json            prints one object a line, for machines
   --strict          exit status 1 where a report was refused
-  --help            says this
-  --version         prints the version
+  -h, --help        says this
+  -V, --version     prints the version
 ";
 
 const WEEK: &str = "lumbixet week [OPTION..] [FILE..]
@@ -93,6 +93,6 @@ alone. Each FILE is a week of its own. Without one, and for -, it reads standard
 
   --json            prints one object a line, for machines
   --strict          exit status 1 where a report was refused or a file ends early
-  --help            says this
-  --version         prints the version
+  -h, --help        says this
+  -V, --version     prints the version
 ";

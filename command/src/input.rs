@@ -2,7 +2,7 @@
 
 use std::ffi::{OsStr, OsString};
 use std::fs::File;
-use std::io::{self, ErrorKind, Read, Write};
+use std::io::{ErrorKind, Read, Write};
 
 use crate::output::{self, complain, Failed, Output, Status};
 use crate::system;
@@ -157,10 +157,4 @@ pub enum Trouble {
 /// All bytes of a file.
 pub fn whole(input: &mut Input) -> Result<Vec<u8>, Trouble> {
     input.read_whole().map_err(Trouble::Input)
-}
-
-/// Writes a whole file.
-pub fn save(name: &OsStr, bytes: &[u8]) -> Result<(), Failed> {
-    let saved: io::Result<()> = File::create(name).and_then(|mut file| file.write_all(bytes));
-    saved.map_err(|reason| Failed { name: said(name), reason })
 }

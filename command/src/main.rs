@@ -10,6 +10,7 @@ mod arguments;
 mod event;
 mod fields;
 mod frame;
+mod guess;
 mod help;
 mod input;
 mod json;
@@ -18,6 +19,7 @@ mod output;
 mod picture;
 mod replay;
 mod report;
+mod save;
 mod system;
 mod text;
 mod trace;
@@ -43,6 +45,12 @@ pub extern "C" fn main(_count: i32, _words: *const *const u8) -> i32 {
 
 /// Does what was asked. An output that fails ends the run at once; an input that fails is named, and the next one is read.
 fn run(asked: &Asked) -> Status {
+    if let Asked::Run(_, options) = asked {
+        if let Err(why) = save::look(&options.operands, &options.wanted()) {
+            output::complain(&why);
+            return Status::WrongUse;
+        }
+    }
     let mut output = Output::standard();
     let done = match asked {
         Asked::Help(text) => output.print(text).map(|()| Status::Done),

@@ -9,6 +9,7 @@ use crate::input::{self, Input, Trouble};
 use crate::json;
 use crate::output::{Failed, Output, Status};
 use crate::picture;
+use crate::save;
 use crate::text::Counter;
 use crate::trace::Trace;
 use crate::words;
@@ -48,7 +49,7 @@ pub fn run(options: &Options, output: &mut Output) -> Result<Status, Failed> {
         let mut teller = Teller { form: options.form, file: name, refused: false, index: Counter::new(), trace };
         play(input, output, &mut teller)?;
         if let (Some(trace), Some(name)) = (&teller.trace, &options.picture) {
-            input::save(name, picture::draw(trace).as_bytes()).map_err(Trouble::Output)?;
+            save::save(name, picture::draw(trace).as_bytes()).map_err(Trouble::Output)?;
         }
         Ok(if options.strict && teller.refused { Status::Refused } else { Status::Done })
     })

@@ -89,9 +89,16 @@ wrong_use() {
 Try 'lumbixet $help--help'."
 }
 wrong_use 'a command is missing: replay, frame, report or week' ''
-wrong_use "unknown command 'play'" '' play
+wrong_use "unknown command 'play'; did you mean 'replay'?" '' play
+wrong_use "unknown command 'wek'; did you mean 'week'?" '' wek
+wrong_use "unknown command 'hlep'; did you mean 'help'?" '' hlep
+wrong_use "unknown command 'hearing.trace'" '' hearing.trace
+wrong_use "unknown command 'xy'" '' xy
+wrong_use "unknown command 'fram'; did you mean 'frame'?" '' help fram
+wrong_use "unknown option --halp; did you mean '--help'?" '' --halp
 wrong_use 'unknown option --words' '' --words
-wrong_use 'unknown option --word' 'replay ' replay --word seven.trace
+wrong_use "unknown option --word; did you mean '--words'?" 'replay ' replay --word seven.trace
+wrong_use '--strict takes no value' 'replay ' replay --strict=yes seven.trace
 wrong_use 'unknown option -w' 'replay ' replay -w seven.trace
 wrong_use 'unknown option --words' 'frame ' frame --words 1f
 wrong_use 'unknown option --picture=x' 'report ' report --picture=x good.report
@@ -112,7 +119,7 @@ wrong_use 'a FILE is missing, or - for standard input' 'report ' report
 
 # ---- help and version
 sed -n 's/^#define LUMBIXET_VERSION_TEXT "\(.*\)"$/lumbixet \1/p' "$top/include/lumbixet.h" >version
-for words in --version 'replay --version' 'frame --version' 'report --version' 'week --version'; do
+for words in --version -V 'replay --version' 'week -V' 'frame --version' 'report --version' 'week --version'; do
     # shellcheck disable=SC2086
     run ./lumbixet $words
     ends "$words" 0 version
@@ -125,6 +132,18 @@ for name in replay frame report week; do
 done
 run ./lumbixet --help
 for name in replay frame report week; do holds '--help' "  $name " out; done
+cp out help
+for words in -h help; do
+    run ./lumbixet $words
+    ends "$words" 0 help
+done
+run ./lumbixet frame --help
+cp out help
+for words in 'help frame' 'frame -h' 'frame 1f -h'; do
+    # shellcheck disable=SC2086
+    run ./lumbixet $words
+    ends "$words" 0 help
+done
 
 # ---- colours and progress, on a terminal only
 red=$'\e[31m'
