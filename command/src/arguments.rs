@@ -8,7 +8,9 @@ use lumbixet::Profile;
 use crate::guess;
 use crate::help;
 use crate::input;
+use crate::moments;
 use crate::save::Wanted;
+use crate::tally::Range;
 
 #[derive(Clone, Copy, PartialEq, Eq)]
 pub enum Command {
@@ -37,6 +39,8 @@ pub struct Options {
     pub strict: bool,
     /// Where the picture goes.
     pub picture: Option<OsString>,
+    /// The part of the hearing that is drawn.
+    pub range: Range,
     /// The profile of the reports; 1 where none is given.
     pub profile: Option<Profile>,
     /// Files, or the digits of a frame.
@@ -52,10 +56,12 @@ pub enum Asked {
 pub const COMMANDS: [Command; 4] = [Replay, Frame, Report, Week];
 
 /// Each option, whether a value follows it, and the commands that take it.
-const OPTIONS: [(&str, bool, &[Command]); 7] = [
+const OPTIONS: [(&str, bool, &[Command]); 9] = [
     ("--words", false, &[Replay]),
     ("--json", false, &COMMANDS),
     ("--picture", true, &[Replay]),
+    ("--from", true, &[Replay]),
+    ("--to", true, &[Replay]),
     ("--profile", true, &[Report]),
     ("--strict", false, &COMMANDS),
     ("--help", false, &COMMANDS),
@@ -131,7 +137,8 @@ fn split(word: &OsStr) -> (&OsStr, Option<OsString>) {
 }
 
 fn parse_options(command: Command, mut words: impl Iterator<Item = OsString>) -> Result<Asked, String> {
-    let mut options = Options { form: Form::Plain, strict: false, picture: None, profile: None, operands: Vec::new() };
+    let mut options =
+        Options { form: Form::Plain, strict: false, picture: None, range: Range::default(), profile: None, operands: Vec::new() };
     while let Some(word) = words.next() {
         if word == "--" {
             options.operands.extend(words.by_ref());
@@ -175,6 +182,8 @@ impl Options {
     fn set(&mut self, name: &str, value: Option<OsString>) -> Result<(), String> {
         match name {
             "--picture" => once(name, &mut self.picture, file_to_write(name, value)?),
+            "--from" => once(name, &mut self.range.from, moment(name, value)?),
+            "--to" => once(name, &mut self.range.to, moment(name, value)?),
             _ => once(name, &mut self.profile, profile(value)?),
         }
     }
@@ -205,6 +214,12 @@ impl Options {
         if self.picture.is_some() && self.operands.len() > 1 {
             return Err("--picture draws one hearing: give one FILE".to_string());
         }
+        if !self.range.is_all() && self.picture.is_none() {
+            return Err("--from and --to choose what is drawn: give --picture, too".to_string());
+        }
+        if self.range.from.zip(self.range.to).map_or(false, |(from, to)| from >= to) {
+            return Err("--to must lie after --from".to_string());
+        }
         if self.operands.iter().filter(|name| input::is_standard(name)).count() > 1 {
             return Err("standard input can be read only once".to_string());
         }
@@ -222,6 +237,11 @@ fn once<T>(name: &str, place: &mut Option<T>, value: T) -> Result<(), String> {
 fn file_to_write(name: &str, value: Option<OsString>) -> Result<OsString, String> {
     let named = value.filter(|value| !value.is_empty() && !input::is_standard(value));
     named.ok_or_else(|| format!("{name} needs the name of a file to write"))
+}
+
+fn moment(name: &str, value: Option<OsString>) -> Result<u64, String> {
+    let time = value.as_ref().and_then(|value| value.to_str()).and_then(moments::parse);
+    time.ok_or_else(|| format!("{name} needs a time since the first record, such as 250ms, 1.5s, 12min or 1:02:03"))
 }
 
 fn profile(value: Option<OsString>) -> Result<Profile, String> {

@@ -53,6 +53,8 @@ one, and for -, it reads standard input, and answers what has come.
   --words           says each line in a sentence
   --json            prints one object a line, for machines
   --picture OUT     also draws the hearing, as SVG, to the file OUT
+  --from T, --to T  draws the part from T on, and the part before T: since the first record,
+                    such as 250ms, 1.5s, 12min or 1:02:03
   --strict          exit status 1 where a record was refused
   -h, --help        says this
   -V, --version     prints the version

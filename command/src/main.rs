@@ -7,22 +7,29 @@
 #![no_main]
 
 mod arguments;
+mod axis;
+mod bins;
 mod event;
 mod fields;
 mod frame;
+mod gaps;
 mod guess;
 mod help;
 mod input;
 mod json;
-mod marks;
+mod kinds;
+mod moments;
 mod output;
+mod packets;
 mod picture;
 mod replay;
 mod report;
 mod save;
+mod strips;
+mod svg;
 mod system;
+mod tally;
 mod text;
-mod trace;
 mod week;
 mod words;
 

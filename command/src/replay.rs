@@ -10,8 +10,8 @@ use crate::json;
 use crate::output::{Failed, Output, Status};
 use crate::picture;
 use crate::save;
+use crate::tally::Tally;
 use crate::text::Counter;
-use crate::trace::Trace;
 use crate::words;
 
 /// How many bytes are read at most at a time.
@@ -23,7 +23,7 @@ struct Teller<'a> {
     file: &'a OsStr,
     refused: bool,
     index: Counter,
-    trace: Option<Trace>,
+    tally: Option<Tally>,
 }
 
 impl Teller<'_> {
@@ -36,8 +36,8 @@ impl Teller<'_> {
             Form::Words => words::put(told, output),
             Form::Json => json::put_told(self.file, told, output),
         }
-        if let Some(trace) = &mut self.trace {
-            trace.note(told);
+        if let Some(tally) = &mut self.tally {
+            tally.note(told);
         }
     }
 }
@@ -45,11 +45,12 @@ impl Teller<'_> {
 pub fn run(options: &Options, output: &mut Output) -> Result<Status, Failed> {
     let headings = options.form != Form::Json;
     input::each(&options.operands, headings, output, |name, input, output| {
-        let trace = options.picture.as_ref().map(|_| Trace::new());
-        let mut teller = Teller { form: options.form, file: name, refused: false, index: Counter::new(), trace };
+        let tally = options.picture.as_ref().map(|_| Tally::new(options.range));
+        let mut teller = Teller { form: options.form, file: name, refused: false, index: Counter::new(), tally };
         play(input, output, &mut teller)?;
-        if let (Some(trace), Some(name)) = (&teller.trace, &options.picture) {
-            save::save(name, picture::draw(trace).as_bytes()).map_err(Trouble::Output)?;
+        if let (Some(tally), Some(name)) = (&mut teller.tally, &options.picture) {
+            tally.end();
+            save::save(name, picture::draw(tally).as_bytes()).map_err(Trouble::Output)?;
         }
         Ok(if options.strict && teller.refused { Status::Refused } else { Status::Done })
     })

@@ -1,5 +1,5 @@
 # Nothing that is read is written, and nothing is written half. command/tests/run reads this file.
-# shellcheck shell=bash disable=SC2154,SC2034
+# shellcheck shell=bash disable=SC2154,SC2034,SC2094
 
 # KEPT, SAID, ARGUMENTS..: wrong use that leaves the file KEPT as it was.
 keeps() {

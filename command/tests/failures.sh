@@ -112,6 +112,11 @@ wrong_use '--picture needs the name of a file to write' 'replay ' replay --pictu
 wrong_use '--picture needs the name of a file to write' 'replay ' replay --picture= seven.trace
 wrong_use '--picture is given twice' 'replay ' replay --picture a --picture b seven.trace
 wrong_use '--picture draws one hearing: give one FILE' 'replay ' replay --picture a seven.trace odd.trace
+for time in '' 5 5x s 1:2:3:4 1:x -1s 1.2.3s 99999999999999h; do
+    wrong_use '--from needs a time since the first record, such as 250ms, 1.5s, 12min or 1:02:03' 'replay ' replay "--from=$time" seven.trace
+done
+wrong_use '--to must lie after --from' 'replay ' replay --picture a --from 2s --to 2000ms seven.trace
+wrong_use '--from and --to choose what is drawn: give --picture, too' 'replay ' replay --from 2s seven.trace
 wrong_use 'unknown option --words' 'week ' week --words short.week
 wrong_use 'standard input can be read only once' 'replay ' replay - -
 wrong_use 'the bytes of a frame are missing: HEX, a FILE, or - for standard input' 'frame ' frame
