@@ -3,10 +3,11 @@
 use std::convert::TryInto;
 use std::ffi::OsStr;
 
-use crate::arguments::{Form, Options};
-use crate::event::{Hearing, Told, RECORD};
+use crate::arguments::{Command, Form, Options};
+use crate::event::{Hearing, Told, IMMEDIATE, PACKET, RECORD};
 use crate::input::{self, Input, Trouble};
 use crate::json;
+use crate::looks;
 use crate::output::{Failed, Output, Status};
 use crate::picture;
 use crate::save;
@@ -17,24 +18,35 @@ use crate::words;
 /// How many bytes are read at most at a time.
 const PIECE: usize = RECORD << 12;
 
+/// Where none of so many records at the start is of a known kind, the file is probably another one.
+const FIRST: u64 = 8;
+
 /// What is done with each record's answer.
 struct Teller<'a> {
     form: Form,
     file: &'a OsStr,
     refused: bool,
+    /// How many of the first records were of a known kind, and whether the very first was.
+    known: u64,
+    begins: bool,
     index: Counter,
     tally: Option<Tally>,
 }
 
 impl Teller<'_> {
     #[inline]
-    fn tell(&mut self, told: &Told, output: &mut Output) {
+    fn tell(&mut self, told: &Told, hearing: &Hearing, output: &mut Output) {
         self.refused |= told.result != 0;
+        if told.index < FIRST {
+            let known = told.event.as_ref().map_or(false, |event| (PACKET..=IMMEDIATE).contains(&event.kind));
+            self.known += u64::from(known);
+            self.begins |= known && told.index == 0;
+        }
         match self.form {
             // "Each line has record index from 0, result (0 accepted, else refusal), cause afterwards."
             Form::Plain => self.index.put_line(&mut output.lines, told.result, told.cause),
             Form::Words => words::put(told, output),
-            Form::Json => json::put_told(self.file, told, output),
+            Form::Json => json::put_told(self.file, told, hearing, output),
         }
         if let Some(tally) = &mut self.tally {
             tally.note(told);
@@ -46,8 +58,12 @@ pub fn run(options: &Options, output: &mut Output) -> Result<Status, Failed> {
     let headings = options.form != Form::Json;
     input::each(&options.operands, headings, output, |name, input, output| {
         let tally = options.picture.as_ref().map(|_| Tally::new(options.range));
-        let mut teller = Teller { form: options.form, file: name, refused: false, index: Counter::new(), tally };
+        let mut teller =
+            Teller { form: options.form, file: name, refused: false, known: 0, begins: false, index: Counter::new(), tally };
         play(input, output, &mut teller)?;
+        if teller.refused && !teller.begins {
+            looks::hint(Command::Replay, input, teller.known == 0);
+        }
         if let (Some(tally), Some(name)) = (&mut teller.tally, &options.picture) {
             tally.end();
             save::save(name, picture::draw(tally).as_bytes()).map_err(Trouble::Output)?;
@@ -70,7 +86,8 @@ fn play(input: &mut Input, output: &mut Output, teller: &mut Teller) -> Result<(
         let whole = filled - filled % RECORD;
         for record in piece[..whole].chunks_exact(RECORD) {
             if let Ok(record) = record.try_into() {
-                teller.tell(&hearing.answer(record), output);
+                let told = hearing.answer(record);
+                teller.tell(&told, &hearing, output);
             }
         }
         output.flush().map_err(Trouble::Output)?;
@@ -78,7 +95,8 @@ fn play(input: &mut Input, output: &mut Output, teller: &mut Teller) -> Result<(
         kept = filled - whole;
     }
     if kept > 0 {
-        teller.tell(&hearing.short(kept), output);
+        let told = hearing.short(kept);
+        teller.tell(&told, &hearing, output);
     }
     output.flush().map_err(Trouble::Output)
 }

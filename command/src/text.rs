@@ -59,9 +59,3 @@ pub fn grouped(number: impl ToString) -> String {
 pub fn counted(number: usize, thing: &str) -> String {
     format!("{} {thing}{}", grouped(number), if number == 1 { "" } else { "s" })
 }
-
-/// Bytes in hexadecimal, a blank between them.
-pub fn hex(bytes: &[u8]) -> String {
-    let pairs: Vec<String> = bytes.iter().map(|byte| format!("{byte:02x}")).collect();
-    pairs.join(" ")
-}

@@ -4,9 +4,10 @@ use std::ffi::OsStr;
 
 use lumbixet::{Status as Became, Sum, Week, PAGE_ROOM};
 
-use crate::arguments::{Form, Options};
+use crate::arguments::{Command, Form, Options};
 use crate::input::{self, Input, Trouble};
 use crate::json::{array, quoted, Object};
+use crate::looks;
 use crate::output::{Failed, Output, Status};
 
 /// How many bytes are read at most at a time; the longest report that is read has room in it.
@@ -34,6 +35,9 @@ pub fn run(options: &Options, output: &mut Output) -> Result<Status, Failed> {
             output.lines.extend_from_slice(page);
         }
         output.flush().map_err(Trouble::Output)?;
+        if early || week.accepted().value == 0 && week.refusals().next().is_some() {
+            looks::hint(Command::Week, input, false);
+        }
         let refused = early || week.refusals().next().is_some();
         Ok(if options.strict && refused { Status::Refused } else { Status::Done })
     })
@@ -64,9 +68,9 @@ fn object(file: &OsStr, week: &Week, early: bool) -> String {
     let refused: Vec<Named> = week.refusals().map(|(refusal, sum)| (refusal.number().to_string(), sum)).collect();
     let entries: Vec<Named> = STATUSES.iter().map(|(status, name)| (name.to_string(), week.entries(*status))).collect();
     let totals = [("total", week.total()), ("received", week.received()), ("late", week.late()), ("lost", week.lost())];
-    let mut object = object.result(0).plain("accepted", week.accepted().value).plain("refused", members(&refused));
+    let mut object = object.result(0).number("accepted", week.accepted().value).plain("refused", members(&refused));
     for (name, sum) in totals {
-        object = object.plain(name, sum.value);
+        object = object.number(name, sum.value);
     }
     // the lines of the page that are marked "full", by their names
     let lines = std::iter::once(("accepted".to_string(), week.accepted()));
@@ -80,5 +84,5 @@ fn object(file: &OsStr, week: &Week, early: bool) -> String {
 type Named = (String, Sum);
 
 fn members(sums: &[Named]) -> String {
-    sums.iter().fold(Object::new(), |object, (name, sum)| object.plain(name, sum.value)).end()
+    sums.iter().fold(Object::new(), |object, (name, sum)| object.number(name, sum.value)).end()
 }
