@@ -71,14 +71,9 @@ run: emulated
 	@target/bin/replay < examples/hearing.trace
 
 picture: emulated command
-	@rt check week
-	@$(COMMAND) replay --picture target/hearing.svg examples/hearing.trace > target/hearing.lines
-	@mv target/hearing.svg examples/hearing.svg
-	@target/bin/week < examples/week.reports > target/week.lines
-	@python3 tools/draw-week target/week.lines > target/week.svg
-	@mv target/week.svg examples/week.svg
-	@python3 tools/draw-objects examples/objects.expected > target/objects.svg
-	@mv target/objects.svg examples/objects.svg
+	@$(COMMAND) replay --picture examples/hearing.svg examples/hearing.trace > target/hearing.lines
+	@$(COMMAND) week --picture examples/week.svg examples/week.reports > target/week.lines
+	@$(COMMAND) objects --first 500 --picture examples/objects.svg examples/objects.expected > target/objects.lines
 	@echo 'picture: examples/hearing.svg, examples/week.svg and examples/objects.svg'
 
 week: emulated

@@ -18,9 +18,10 @@ pub enum Command {
     Frame,
     Report,
     Week,
+    Objects,
 }
 
-use Command::{Frame, Replay, Report, Week};
+use Command::{Frame, Objects, Replay, Report, Week};
 
 /// How lines are printed.
 #[derive(Clone, Copy, PartialEq, Eq)]
@@ -37,12 +38,18 @@ pub struct Options {
     pub form: Form,
     /// Whether a refusal in the data shows in the exit status.
     pub strict: bool,
+    /// Whether each file is shown by itself, too.
+    pub each: bool,
     /// Where the picture goes.
     pub picture: Option<OsString>,
+    /// Where the page in HTML goes.
+    pub page: Option<OsString>,
     /// The part of the hearing that is drawn.
     pub range: Range,
     /// The profile of the reports; 1 where none is given.
     pub profile: Option<Profile>,
+    /// The number of the first object of a strip; 0 where none is given.
+    pub first: Option<u64>,
     /// Files, or the digits of a frame.
     pub operands: Vec<OsString>,
 }
@@ -53,16 +60,19 @@ pub enum Asked {
     Run(Command, Options),
 }
 
-pub const COMMANDS: [Command; 4] = [Replay, Frame, Report, Week];
+pub const COMMANDS: [Command; 5] = [Replay, Frame, Report, Week, Objects];
 
 /// Each option, whether a value follows it, and the commands that take it.
-const OPTIONS: [(&str, bool, &[Command]); 9] = [
-    ("--words", false, &[Replay]),
+const OPTIONS: [(&str, bool, &[Command]); 12] = [
+    ("--words", false, &[Replay, Week, Objects]),
     ("--json", false, &COMMANDS),
-    ("--picture", true, &[Replay]),
+    ("--each", false, &[Week]),
+    ("--picture", true, &[Replay, Week, Objects]),
+    ("--page", true, &[Replay, Week, Objects]),
     ("--from", true, &[Replay]),
     ("--to", true, &[Replay]),
     ("--profile", true, &[Report]),
+    ("--first", true, &[Objects]),
     ("--strict", false, &COMMANDS),
     ("--help", false, &COMMANDS),
     ("--version", false, &COMMANDS),
@@ -79,6 +89,7 @@ impl Command {
             Frame => "frame",
             Report => "report",
             Week => "week",
+            Objects => "objects",
         }
     }
 
@@ -89,7 +100,7 @@ impl Command {
 
 pub fn parse(words: Vec<OsString>) -> Result<Asked, String> {
     let mut words = words.into_iter();
-    let missing = "a command is missing: replay, frame, report or week";
+    let missing = "a command is missing: replay, frame, report, week or objects";
     let first = words.next().ok_or_else(|| advised(None, missing))?;
     let names = || COMMANDS.into_iter().map(Command::name);
     match first.to_str() {
@@ -137,8 +148,17 @@ fn split(word: &OsStr) -> (&OsStr, Option<OsString>) {
 }
 
 fn parse_options(command: Command, mut words: impl Iterator<Item = OsString>) -> Result<Asked, String> {
-    let mut options =
-        Options { form: Form::Plain, strict: false, picture: None, range: Range::default(), profile: None, operands: Vec::new() };
+    let mut options = Options {
+        form: Form::Plain,
+        strict: false,
+        each: false,
+        picture: None,
+        page: None,
+        range: Range::default(),
+        profile: None,
+        first: None,
+        operands: Vec::new(),
+    };
     while let Some(word) = words.next() {
         if word == "--" {
             options.operands.extend(words.by_ref());
@@ -172,6 +192,7 @@ impl Options {
     fn turn_on(&mut self, name: &str) -> Result<(), String> {
         match name {
             "--strict" => self.strict = true,
+            "--each" => self.each = true,
             "--json" => self.choose(Form::Json)?,
             "--words" => self.choose(Form::Words)?,
             _ => {}
@@ -182,8 +203,10 @@ impl Options {
     fn set(&mut self, name: &str, value: Option<OsString>) -> Result<(), String> {
         match name {
             "--picture" => once(name, &mut self.picture, file_to_write(name, value)?),
+            "--page" => once(name, &mut self.page, file_to_write(name, value)?),
             "--from" => once(name, &mut self.range.from, moment(name, value)?),
             "--to" => once(name, &mut self.range.to, moment(name, value)?),
+            "--first" => once(name, &mut self.first, number(name, value)?),
             _ => once(name, &mut self.profile, profile(value)?),
         }
     }
@@ -199,23 +222,24 @@ impl Options {
     /// The files that will be written.
     pub fn wanted(&self) -> Vec<Wanted<'_>> {
         let picture = self.picture.iter().map(|name| Wanted { option: "--picture", name, beginning: "<svg " });
-        picture.collect()
+        let page = self.page.iter().map(|name| Wanted { option: "--page", name, beginning: "<!DOCTYPE html>" });
+        picture.chain(page).collect()
     }
 
     /// What the words come to together.
     fn settle(&mut self, command: Command) -> Result<(), String> {
         if self.operands.is_empty() {
             match command {
-                Replay | Week => self.operands.push("-".into()),
+                Replay | Week | Objects => self.operands.push("-".into()),
                 Frame => return Err("the bytes of a frame are missing: HEX, a FILE, or - for standard input".to_string()),
                 Report => return Err("a FILE is missing, or - for standard input".to_string()),
             }
         }
-        if self.picture.is_some() && self.operands.len() > 1 {
-            return Err("--picture draws one hearing: give one FILE".to_string());
+        if command != Week && self.picture.is_some() && self.operands.len() > 1 {
+            return Err("--picture draws one FILE".to_string());
         }
-        if !self.range.is_all() && self.picture.is_none() {
-            return Err("--from and --to choose what is drawn: give --picture, too".to_string());
+        if !self.range.is_all() && self.picture.is_none() && self.page.is_none() {
+            return Err("--from and --to choose what is drawn: give --picture or --page, too".to_string());
         }
         if self.range.from.zip(self.range.to).map_or(false, |(from, to)| from >= to) {
             return Err("--to must lie after --from".to_string());
@@ -242,6 +266,11 @@ fn file_to_write(name: &str, value: Option<OsString>) -> Result<OsString, String
 fn moment(name: &str, value: Option<OsString>) -> Result<u64, String> {
     let time = value.as_ref().and_then(|value| value.to_str()).and_then(moments::parse);
     time.ok_or_else(|| format!("{name} needs a time since the first record, such as 250ms, 1.5s, 12min or 1:02:03"))
+}
+
+fn number(name: &str, value: Option<OsString>) -> Result<u64, String> {
+    let number = value.as_ref().and_then(|value| value.to_str()).and_then(|digits| digits.parse().ok());
+    number.ok_or_else(|| format!("{name} needs a number"))
 }
 
 fn profile(value: Option<OsString>) -> Result<Profile, String> {

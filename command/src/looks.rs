@@ -91,6 +91,7 @@ fn expected(command: Command) -> &'static str {
         Command::Frame => "frames",
         Command::Report => "a report",
         Command::Week => "a file of reports, each after its length",
+        Command::Objects => "lines of statuses",
     }
 }
 

@@ -8,13 +8,16 @@
 
 mod arguments;
 mod axis;
+mod bars;
 mod bins;
+mod dates;
 mod event;
 mod fields;
 mod frame;
 mod frames;
 mod gaps;
 mod guess;
+mod hearing_page;
 mod help;
 mod hex;
 mod input;
@@ -22,19 +25,26 @@ mod json;
 mod kinds;
 mod looks;
 mod moments;
+mod objects;
+mod objects_picture;
 mod output;
 mod packets;
+mod page;
 mod picture;
 mod replay;
 mod report;
 mod save;
 mod strips;
+mod sums;
 mod svg;
 mod system;
 mod tally;
 mod text;
 mod types;
 mod week;
+mod week_page;
+mod week_picture;
+mod week_words;
 mod words;
 
 use crate::arguments::{Asked, Command};
@@ -70,6 +80,7 @@ fn run(asked: &Asked) -> Status {
         Asked::Run(Command::Frame, options) => frame::run(options, &mut output),
         Asked::Run(Command::Report, options) => report::run(options, &mut output),
         Asked::Run(Command::Week, options) => week::run(options, &mut output),
+        Asked::Run(Command::Objects, options) => objects::run(options, &mut output),
     };
     done.unwrap_or_else(|failed| {
         output::complain(&failed.to_string());

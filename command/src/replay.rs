@@ -5,10 +5,12 @@ use std::ffi::OsStr;
 
 use crate::arguments::{Command, Form, Options};
 use crate::event::{Hearing, Told, IMMEDIATE, PACKET, RECORD};
+use crate::hearing_page;
 use crate::input::{self, Input, Trouble};
 use crate::json;
 use crate::looks;
 use crate::output::{Failed, Output, Status};
+use crate::page::{Page, PROVED};
 use crate::picture;
 use crate::save;
 use crate::tally::Tally;
@@ -31,6 +33,8 @@ struct Teller<'a> {
     begins: bool,
     index: Counter,
     tally: Option<Tally>,
+    /// The first refused records, as sentences.
+    told: Vec<String>,
 }
 
 impl Teller<'_> {
@@ -49,27 +53,50 @@ impl Teller<'_> {
             Form::Json => json::put_told(self.file, told, hearing, output),
         }
         if let Some(tally) = &mut self.tally {
-            tally.note(told);
+            if tally.note(told) && told.result != 0 && self.told.len() < hearing_page::TOLD {
+                self.told.push(words::sentence(told, &|_, text| text.to_string()));
+            }
         }
     }
 }
 
 pub fn run(options: &Options, output: &mut Output) -> Result<Status, Failed> {
     let headings = options.form != Form::Json;
-    input::each(&options.operands, headings, output, |name, input, output| {
-        let tally = options.picture.as_ref().map(|_| Tally::new(options.range));
-        let mut teller =
-            Teller { form: options.form, file: name, refused: false, known: 0, begins: false, index: Counter::new(), tally };
+    let drawn = options.picture.is_some() || options.page.is_some();
+    let mut page = Page::new(if options.operands.len() > 1 { "Hearings" } else { "A hearing" });
+    let status = input::each(&options.operands, headings, output, |name, input, output| {
+        let tally = drawn.then(|| Tally::new(options.range));
+        let told = Vec::new();
+        let mut teller = Teller {
+            form: options.form,
+            file: name,
+            refused: false,
+            known: 0,
+            begins: false,
+            index: Counter::new(),
+            tally,
+            told,
+        };
         play(input, output, &mut teller)?;
         if teller.refused && !teller.begins {
             looks::hint(Command::Replay, input, teller.known == 0);
         }
-        if let (Some(tally), Some(name)) = (&mut teller.tally, &options.picture) {
+        if let Some(tally) = &mut teller.tally {
             tally.end();
-            save::save(name, picture::draw(tally).as_bytes()).map_err(Trouble::Output)?;
+            if let Some(name) = &options.picture {
+                save::save(name, picture::draw(tally).as_bytes()).map_err(Trouble::Output)?;
+            }
+            if options.page.is_some() {
+                hearing_page::put(&mut page, input.name(), tally, &teller.told);
+            }
         }
         Ok(if options.strict && teller.refused { Status::Refused } else { Status::Done })
-    })
+    })?;
+    match &options.page {
+        // what was not read to its end has no page
+        Some(name) if status != Status::Failed => save::save(name, page.end(PROVED).as_bytes()).map(|()| status),
+        _ => Ok(status),
+    }
 }
 
 /// Plays what has come as soon as it has come; only the end of the input ends a record early.

@@ -28,14 +28,18 @@ fn identity_of(name: &OsStr) -> Option<Identity> {
     identity(fs::metadata(name))
 }
 
-/// Whether both names will be one file, which need not be there yet.
+/// Whether both names will be one file, which need not be there yet. A device may be written twice.
 fn same_place(a: &OsStr, b: &OsStr) -> bool {
     let place = |name: &OsStr| {
         let path = Path::new(name);
         let folder = path.parent().filter(|folder| !folder.as_os_str().is_empty()).unwrap_or(Path::new("."));
         Some((fs::canonicalize(folder).ok()?, path.file_name()?.to_os_string()))
     };
-    identity_of(a).map_or_else(|| place(a).is_some() && place(a) == place(b), |file| Some(file) == identity_of(b))
+    match (fs::metadata(a), fs::metadata(b)) {
+        (Ok(a), Ok(b)) => identity(Ok(a)).map_or(false, |file| Some(file) == identity(Ok(b))),
+        (Err(_), Err(_)) => place(a).is_some() && place(a) == place(b),
+        _ => false,
+    }
 }
 
 /// Looks at all files before the first line is printed. Says why one of them may not be written.

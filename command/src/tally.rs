@@ -9,8 +9,8 @@ use crate::event::{Event, Told, IMMEDIATE, PACKET, WRITE};
 use crate::gaps::{Arrival, Gap, Gaps, Passed};
 use crate::kinds::{self, CAME, KINDS, LATE, LOST, MARKED, REFUSED, WRITTEN};
 
-/// From so many things on, bins are drawn.
-const FEW: usize = 4_000;
+/// From so many things on, bins are drawn; a fuzzer's inputs are short.
+const FEW: usize = if cfg!(fuzzing) { 8 } else { 4_000 };
 
 /// Microseconds from the first record on, and below the second.
 #[derive(Clone, Copy, Default)]
@@ -81,11 +81,13 @@ impl Tally {
         }
     }
 
+    /// A record was answered. Says whether it lies in the part of the hearing that was asked for.
     #[inline]
-    pub fn note(&mut self, told: &Told) {
+    pub fn note(&mut self, told: &Told) -> bool {
         let known = told.event.as_ref().ok().filter(|event| (PACKET..=IMMEDIATE).contains(&event.kind));
         let time = known.and_then(|event| self.since_first(event.time));
-        self.records += u64::from(self.range.has(time));
+        let inside = self.range.has(time);
+        self.records += u64::from(inside);
         if told.result != 0 {
             let number = known.filter(|event| event.kind == PACKET).map(|event| event.number);
             if self.add(REFUSED, time, 1, || Thing::Refused(number, told.result)) {
@@ -98,6 +100,7 @@ impl Tally {
         if let (Some(kind), 0) = (kinds::due(told.cause), told.before) {
             self.add(kind, time, 1, || Thing::Due(told.cause));
         }
+        inside
     }
 
     /// A time that no call accepts has no place; the call for IMMEDIATE_ACK takes none, so its own may be such a one.

@@ -19,7 +19,8 @@ offers '--help --version' --
 offers '--words' replay --w
 offers '--json' frame --j
 offers '' report --w
-offers '' week --p
+offers '--picture --page' week --p
+offers '' week --pr
 offers 'replay report' help re
 offers '' replay --from ''
 offers '--profile' report --p
@@ -31,7 +32,7 @@ offers 'good.report' report good
 offers '' play s
 
 # Every option that is offered is accepted, and every option of the help is offered.
-for name in replay frame report week; do
+for name in replay frame report week objects; do
     COMP_WORDS=(lumbixet "$name" --) COMP_CWORD=2
     _lumbixet
     for option in "${COMPREPLY[@]}"; do
