@@ -215,7 +215,8 @@ compare: paper
 	@$(PAPER) compare-replay target/bin/replay $(INPUTS)
 	@echo
 	@echo 'The command, over the same inputs'
-	@$(PAPER) compare-replay '$(COMMAND) replay' $(INPUTS)
+	@# made-up inputs look like no hearing, and the command says so of each
+	@$(PAPER) compare-replay '$(COMMAND) replay' $(INPUTS) 2>target/paper/said || { cat target/paper/said; exit 1; }
 	@echo
 	@echo "The week's program and the second implementation, in 64 KiB of stack"
 	@tools/in-stack 64 target/bin/week < crates/week/stdin | cmp - crates/week/stdout

@@ -104,8 +104,20 @@ pub fn rows(weeks: &Weeks, all: Option<&Sums>) -> Vec<Vec<String>> {
     rows
 }
 
-pub const HEADINGS: [&str; 11] =
-    ["file", "accepted", "refused", "total", "received", "late", "lost", "entries received", "late", "not received", "partial"];
+/// As the lines of a page are named.
+pub const HEADINGS: [&str; 11] = [
+    "file",
+    "accepted",
+    "refused",
+    "total",
+    "received",
+    "late",
+    "lost",
+    "entries received",
+    "entries late",
+    "entries not received",
+    "entries partial",
+];
 
 fn row(name: &str, sums: &Sums) -> Vec<String> {
     if sums.early {

@@ -100,24 +100,24 @@ run ./lumbixet week short.week nothing.week
 ends 'a file that is not there' 3 empty 'lumbixet: nothing.week: No such file or directory'
 
 cat >each.lines <<'END'
-  file        accepted  refused  total                               received                            late  lost  entries received  late  not received  partial
-  short.week  2         3        6                                   2                                   2     2     2                 2     2             0
-  full.week   5         1        18,446,744,073,709,551,615 or more  18,446,744,073,709,551,615 or more  0     0     0                 0     0             0
-  all files   7         4        18,446,744,073,709,551,615 or more  18,446,744,073,709,551,615 or more  2     2     2                 2     2             0
+  file        accepted  refused  total                               received                            late  lost  entries received  entries late  entries not received  entries partial
+  short.week  2         3        6                                   2                                   2     2     2                 2             2                     0
+  full.week   5         1        18,446,744,073,709,551,615 or more  18,446,744,073,709,551,615 or more  0     0     0                 0             0                     0
+  all files   7         4        18,446,744,073,709,551,615 or more  18,446,744,073,709,551,615 or more  2     2     2                 2             2                     0
 END
 run ./lumbixet week --each short.week full.week
 ends 'a row for each file' 0 each.lines
 cat >each.lines <<'END'
-  file        accepted    refused  total  received  late  lost  entries received  late  not received  partial
+  file        accepted    refused  total  received  late  lost  entries received  entries late  entries not received  entries partial
   cut.week    ends early
-  short.week  2           3        6      2         2     2     2                 2     2             0
+  short.week  2           3        6      2         2     2     2                 2             2                     0
   all files   ends early
 END
 run ./lumbixet week --each cut.week short.week
 ends 'a row for a file that ends early' 0 each.lines "$early"
 cat >some.lines <<'END'
-  file        accepted  refused  total  received  late  lost  entries received  late  not received  partial
-  short.week  2         3        6      2         2     2     2                 2     2             0
+  file        accepted  refused  total  received  late  lost  entries received  entries late  entries not received  entries partial
+  short.week  2         3        6      2         2     2     2                 2             2                     0
 END
 run ./lumbixet week --each short.week nothing.week
 ends 'rows, and a file that is not there' 3 some.lines 'lumbixet: nothing.week: No such file or directory'
