@@ -8,7 +8,7 @@ use crate::arguments::{Command, Form, Options};
 use crate::fields::Fault;
 use crate::frames::{object, put, read, walk};
 use crate::hex;
-use crate::input::{self, Trouble};
+use crate::input::{self, Input, Trouble};
 use crate::json::Object;
 use crate::looks;
 use crate::output::{Failed, Output, Status};
@@ -17,6 +17,9 @@ use crate::types::{self, PADDING, PING};
 
 /// Lines are printed when so many bytes of them have come together.
 const MANY: usize = 1 << 16;
+
+/// So much of a file is read before it is judged whether it begins with a frame.
+const START: usize = 1 << 16;
 
 /// What is passed over at the start, to show what follows: PADDING as far as it goes, or a PING.
 fn passed_over(bytes: &[u8]) -> Option<(&'static str, usize)> {
@@ -80,6 +83,17 @@ fn run_of(name: Option<&str>, bytes: &[u8], form: Form, output: &mut Output) -> 
     }
 }
 
+/// The bytes of a file; of one that begins with another type only the start, however long it is.
+fn frames_of(input: &mut Input) -> Result<Vec<u8>, Trouble> {
+    let mut bytes = input::up_to(input, START)?;
+    let begins = passed_over(&bytes).is_some() || read(&bytes).err() != Some(Refusal::OtherType);
+    // digits are no frame yet
+    if begins || bytes.is_ascii() {
+        bytes.extend(input::whole(input)?);
+    }
+    Ok(bytes)
+}
+
 /// The bytes of an input. Standard input may hold them as digits: no frame that is read here begins with one.
 fn bytes_of(name: &OsStr, bytes: Vec<u8>) -> Vec<u8> {
     let digits = if input::is_standard(name) { std::str::from_utf8(&bytes).ok().and_then(hex::parse) } else { None };
@@ -119,7 +133,7 @@ pub fn run(options: &Options, output: &mut Output) -> Result<Status, Failed> {
         let now = match source {
             Source::Hex(bytes) => judged(run_of(None, bytes, options.form, output)?),
             Source::File(name) => input::each(std::slice::from_ref(name), false, output, |name, input, output| {
-                let bytes = bytes_of(name, input::whole(input)?);
+                let bytes = bytes_of(name, frames_of(input)?);
                 let refused = run_of(Some(&name.to_string_lossy()), &bytes, options.form, output).map_err(Trouble::Output)?;
                 if refused {
                     looks::hint(Command::Frame, input, false);

@@ -79,13 +79,13 @@ impl Input {
     fn read_whole(&mut self, most: usize) -> Result<Vec<u8>, Failed> {
         let mut bytes = Vec::new();
         let mut part = vec![0; 1 << 16];
-        loop {
+        while bytes.len() <= most {
             match self.read(&mut part)? {
-                0 => return Ok(bytes),
-                _ if bytes.len() > most => return Ok(bytes),
+                0 => break,
                 count => bytes.extend_from_slice(&part[..count]),
             }
         }
+        Ok(bytes)
     }
 }
 

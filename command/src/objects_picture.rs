@@ -5,20 +5,21 @@ use crate::axis::said;
 use crate::bars::{badge, cell};
 use crate::objects::{Line, Strip, LETTERS, SUMMARY};
 use crate::svg::{Style, Svg};
-use crate::text::grouped;
+use crate::text::{counted, grouped};
 
 const TITLE: &str = "A hearing's objects, and the reports on them";
 const LEFT: f64 = 150.0;
-const TOP: f64 = 136.0;
+const TOP: f64 = 152.0;
 const COLUMN: f64 = 112.0;
 const ROW: f64 = 34.0;
 
-/// So many reports and objects are drawn at most.
-const MOST: usize = 500;
+/// So many reports and objects are drawn at most; a tracker has 256 objects.
+const MOST: usize = 100;
+const MOST_OBJECTS: usize = 256;
 
 pub fn draw(lines: &[Line], first: u64) -> String {
     let strips: Vec<&Strip> = lines.iter().filter_map(Line::strip).take(MOST).collect();
-    let objects = strips.iter().map(|strip| strip.statuses.len()).max().unwrap_or(0).min(MOST);
+    let objects = strips.iter().map(|strip| strip.statuses.len()).max().unwrap_or(0).min(MOST_OBJECTS);
     let mut svg = Svg::default();
     svg.text(30.0, 44.0, TITLE, Style { size: 26, bold: true, ..Style::default() });
     for (place, (_, status)) in LETTERS.iter().enumerate() {
@@ -26,6 +27,8 @@ pub fn draw(lines: &[Line], first: u64) -> String {
         badge(&mut svg, x, 62.0, status);
         svg.text(x + 28.0, 77.0, status, Style { size: 15, ..Style::default() });
     }
+    let said = cut(lines, strips.len(), objects);
+    svg.text(30.0, 104.0, &said, Style { size: 14, class: "soft", ..Style::default() });
     let below = TOP + ROW * objects as f64 + 24.0;
     names(&mut svg, first, objects, below);
     for (place, strip) in strips.iter().enumerate() {
@@ -33,8 +36,18 @@ pub fn draw(lines: &[Line], first: u64) -> String {
     }
     let height = remarks(&mut svg, lines, below + 22.0 * SUMMARY.len() as f64 + 16.0);
     let width = (LEFT + COLUMN * strips.len() as f64 + 30.0).max(1200.0);
-    let all = lines.iter().filter(|line| line.strip().is_some()).count();
-    svg.end(width, height, TITLE, &format!("{} of {} reports on {} objects", strips.len(), all, objects))
+    svg.end(width, height, TITLE, &said)
+}
+
+/// How much is drawn, and of how much.
+fn cut(lines: &[Line], reports: usize, objects: usize) -> String {
+    let all = lines.iter().filter_map(Line::strip).count();
+    let longest = lines.iter().filter_map(Line::strip).map(|strip| strip.statuses.len()).max().unwrap_or(0);
+    let of = |drawn: usize, all: usize, thing: &str| match all - drawn {
+        0 => counted(all, thing),
+        _ => format!("the first {} of {}", grouped(drawn), counted(all, thing)),
+    };
+    format!("{} on {}", of(reports, all, "report"), of(objects, longest, "object"))
 }
 
 /// The names of the rows.

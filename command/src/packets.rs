@@ -14,8 +14,9 @@ const TOP: f64 = 166.0;
 const BOTTOM: f64 = 586.0;
 const ROW: f64 = 26.0;
 
-/// Of a longer gap only the two ends have a mark.
+/// Of a longer gap only the two ends have a mark; where so many numbers never came, of every gap.
 const LONG_GAP: u64 = 64;
+const MANY_LOST: u64 = 2_000;
 
 /// Packet numbers from `low` to `high`.
 struct Numbers {
@@ -32,10 +33,7 @@ impl Numbers {
                 _ => None,
             })
         };
-        let lost = things.iter().filter_map(|happened| match &happened.thing {
-            Thing::Lost(gap) => Some(gap.first),
-            _ => None,
-        });
+        let lost = things.iter().filter_map(Happened::gap).map(|gap| gap.first);
         let (low, high) = came().min().zip(came().max()).unwrap_or((0, 1));
         let below = lost.min().unwrap_or(low).min(low);
         Numbers { low: if low - below <= (high - low).max(20) { below } else { low }, high }
@@ -146,11 +144,9 @@ fn refused_words(refusal: u64, when: &str) -> String {
 
 fn draw_packets(svg: &mut Svg, things: &[Happened], times: &Times, numbers: &Numbers) {
     let usual = usual_pace(things);
-    for Happened { thing, .. } in things {
-        if let Thing::Lost(gap) = thing {
-            draw_gap(svg, gap, usual, times, numbers);
-        }
-    }
+    let gaps = || things.iter().filter_map(Happened::gap);
+    let each = if gaps().map(Gap::count).sum::<u64>() < MANY_LOST { LONG_GAP } else { 2 };
+    gaps().for_each(|gap| draw_gap(svg, gap, each, usual, times, numbers));
     // what came stands on top of what did not
     for Happened { time, thing } in things {
         let (x, when) = (times.x(*time as f64), said(*time));
@@ -191,13 +187,13 @@ fn usual_pace(things: &[Happened]) -> f64 {
 }
 
 /// A mark for each number that never came; of a long gap, a line between its ends.
-fn draw_gap(svg: &mut Svg, gap: &Gap, usual: f64, times: &Times, numbers: &Numbers) {
+fn draw_gap(svg: &mut Svg, gap: &Gap, each: u64, usual: f64, times: &Times, numbers: &Numbers) {
     if gap.first < numbers.low {
         return;
     }
     let place = |number: u64| (times.x(gap.passed.expected(number, usual)).max(LEFT), numbers.y(number));
     let mut cross = |number: u64, words: &str| svg.mark(LOST, place(number).0, place(number).1, words);
-    if gap.count() <= LONG_GAP {
+    if gap.count() <= each {
         (gap.first..=gap.last).for_each(|number| cross(number, &format!("packet {} never came", grouped(number))));
     } else {
         let words = format!("packets {} to {} never came", grouped(gap.first), grouped(gap.last));

@@ -38,6 +38,15 @@ pub struct Happened {
     pub thing: Thing,
 }
 
+impl Happened {
+    pub fn gap(&self) -> Option<&Gap> {
+        match &self.thing {
+            Thing::Lost(gap) => Some(gap),
+            _ => None,
+        }
+    }
+}
+
 pub enum Thing {
     /// A packet above all others, and the pace at which it came.
     Came(u64, f64),
