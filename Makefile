@@ -81,14 +81,9 @@ run: emulated
 	@echo 'That was the bundled hearing, a line for each record. It is drawn in examples/hearing.svg; README.md says what to read on.'
 
 picture: emulated command $(HEARING)
-	@tools/prove week
-	@$(COMMAND) replay --picture target/hearing.svg examples/hearing.trace > target/hearing.lines
-	@mv target/hearing.svg examples/hearing.svg
-	@target/bin/week < examples/week.reports > target/week.lines
-	@python3 tools/draw-week target/week.lines > target/week.svg
-	@mv target/week.svg examples/week.svg
-	@python3 tools/draw-objects examples/objects.expected > target/objects.svg
-	@mv target/objects.svg examples/objects.svg
+	@$(COMMAND) replay --picture examples/hearing.svg examples/hearing.trace > target/hearing.lines
+	@$(COMMAND) week --picture examples/week.svg examples/week.reports > target/week.lines
+	@$(COMMAND) objects --first 500 --picture examples/objects.svg examples/objects.expected > target/objects.lines
 	@$(HEARING) picture > target/hearing/picture.svg
 	@mv target/hearing/picture.svg hearing/picture.svg
 	@echo 'picture: examples/hearing.svg, examples/week.svg, examples/objects.svg and hearing/picture.svg'
@@ -283,7 +278,8 @@ compare: paper
 	@$(PAPER) compare-replay target/bin/replay $(INPUTS)
 	@echo
 	@echo 'The command, over the same inputs'
-	@$(PAPER) compare-replay '$(COMMAND) replay' $(INPUTS)
+	@# made-up inputs look like no hearing, and the command says so of each
+	@$(PAPER) compare-replay '$(COMMAND) replay' $(INPUTS) 2>target/paper/said || { cat target/paper/said; exit 1; }
 	@echo
 	@echo "The week's program and the second implementation, in 64 KiB of stack"
 	@tools/in-stack 64 target/bin/week < crates/week/stdin | cmp - crates/week/stdout

@@ -94,6 +94,15 @@ impl Hearing {
         self.told(Err(bytes), Err(Refusal::Ends), self.receiver.record().cause, 0)
     }
 
+    /// The acknowledgment that the last record had written.
+    pub fn frame(&self, told: &Told) -> &[u8] {
+        &self.room[..told.written]
+    }
+
+    pub fn receiver(&self) -> &Receiver {
+        &self.receiver
+    }
+
     fn told(&mut self, event: Result<Event, usize>, answer: Result<(), Refusal>, before: u64, written: usize) -> Told {
         let index = self.index;
         self.index += 1;

@@ -2,9 +2,9 @@
 
 use lumbixet::{read_number, Refusal};
 
+use crate::hex;
 use crate::json::Object;
 use crate::output::{Colour, Output};
-use crate::text::hex;
 
 /// A wire number that was read.
 pub struct Field {
@@ -59,7 +59,7 @@ impl<'a> Walk<'a> {
     /// A row for each field: its place, its bytes, its name, and what it says.
     pub fn rows(&self, base: usize, mut says: impl FnMut(usize, &Field) -> String) -> Vec<Vec<String>> {
         let row = |(index, field): (usize, &Field)| {
-            let bytes = hex(&self.bytes[field.start..field.end]);
+            let bytes = hex::digits(&self.bytes[field.start..field.end], " ");
             vec![(base + field.start).to_string(), bytes, field.name.to_string(), says(index, field)]
         };
         self.fields.iter().enumerate().map(row).collect()
@@ -102,7 +102,7 @@ impl Fault {
     }
 
     pub fn object(&self, base: usize, object: Object) -> Object {
-        object.result(self.refusal.number()).plain("place", base + self.place).text("field", &self.field)
+        object.result(self.refusal.number()).number("place", base + self.place).text("field", &self.field)
     }
 }
 

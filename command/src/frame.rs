@@ -2,191 +2,102 @@
 
 use std::ffi::{OsStr, OsString};
 
-use lumbixet::{ranges_room, Ack, Counts, Frequency, Immediate, Refusal};
+use lumbixet::Refusal;
 
-use crate::arguments::{Form, Options};
-use crate::fields::{table, Fault, Field, Walk};
-use crate::input::{self, Trouble};
-use crate::json::{array, Object};
+use crate::arguments::{Command, Form, Options};
+use crate::fields::Fault;
+use crate::frames::{object, put, read, walk};
+use crate::hex;
+use crate::input::{self, Input, Trouble};
+use crate::json::Object;
+use crate::looks;
 use crate::output::{Failed, Output, Status};
-use crate::text::{counted, grouped};
-
-/// Room for the ranges of most frames; one with more is read again.
-const FEW: usize = 64;
-
-/// The type of an ACK frame with the counts of marks.
-const ACK_WITH_COUNTS: u64 = 3;
+use crate::text::counted;
+use crate::types::{self, PADDING, PING};
 
 /// Lines are printed when so many bytes of them have come together.
 const MANY: usize = 1 << 16;
 
-enum Frame {
-    Frequency(Frequency),
-    Immediate,
-    /// Largest number and delay, smallest and largest of each range, and of type 03 the counts of marks.
-    Ack(u64, u64, Vec<u64>, Option<Counts>),
-}
+/// So much of a file is read before it is judged whether it begins with a frame.
+const START: usize = 1 << 16;
 
-/// The frame at the start and its length: the first reader that knows the type decides.
-fn read(bytes: &[u8]) -> Result<(Frame, usize), Refusal> {
-    let used = |rest: &[u8]| bytes.len() - rest.len();
-    match Immediate::read(bytes) {
-        Err(Refusal::OtherType) => {}
-        answer => return answer.map(|(_, rest)| (Frame::Immediate, used(rest))),
-    }
-    match Frequency::read(bytes) {
-        Err(Refusal::OtherType) => {}
-        answer => return answer.map(|(frame, rest)| (Frame::Frequency(frame), used(rest))),
-    }
-    match read_ack(bytes, FEW) {
-        Err(Refusal::NoRoom) => read_ack(bytes, ranges_room(bytes.len())),
-        answer => answer,
+/// What is passed over at the start, to show what follows: PADDING as far as it goes, or a PING.
+fn passed_over(bytes: &[u8]) -> Option<(&'static str, usize)> {
+    match bytes.first() {
+        Some(&PADDING) => Some(("PADDING", bytes.iter().take_while(|byte| **byte == PADDING).count())),
+        Some(&PING) => Some(("PING", 1)),
+        _ => None,
     }
 }
 
-fn read_ack(bytes: &[u8], room: usize) -> Result<(Frame, usize), Refusal> {
-    let mut ranges = vec![0; room];
-    let (ack, rest) = Ack::read(bytes, &mut ranges)?;
-    Ok((Frame::Ack(ack.largest, ack.delay, ack.pairs.to_vec(), ack.counts), bytes.len() - rest.len()))
-}
-
-/// The fields of the frame that the bytes begin with.
-fn walk(bytes: &[u8]) -> Walk<'_> {
-    let mut walk = Walk::new(bytes);
-    let kind = walk.next("type");
-    match Frequency::read(bytes) {
-        Err(Refusal::OtherType) => {}
-        _ => {
-            for name in ["sequence", "ack-eliciting threshold", "requested maximum delay", "reordering threshold"] {
-                walk.next(name);
+/// The frame at the start of the rest, put as it was asked for: its length, or `None` where it is refused.
+fn next(name: Option<&str>, rest: &[u8], base: usize, form: Form, output: &mut Output) -> Option<usize> {
+    let start = || Object::new().words("file", name).number("at", base);
+    let json = form == Form::Json;
+    if let Some((passed, length)) = passed_over(rest) {
+        if json {
+            output.put(&(start().text("frame", passed).number("length", length).result(0).end() + "\n"));
+        } else {
+            output.put(&format!("{passed}, {} at byte {base}\n", counted(length, "byte")));
+        }
+        return Some(length);
+    }
+    match read(rest) {
+        Ok((frame, length)) => {
+            if json {
+                output.put(&(object(&frame, &rest[..length], start()).result(0).end() + "\n"));
+            } else {
+                put(&frame, &rest[..length], base, output);
             }
-            return walk;
+            Some(length)
         }
-    }
-    if let Err(Refusal::OtherType) = Ack::read(bytes, &mut []) {
-        return walk;
-    }
-    walk.next("largest");
-    walk.next("delay");
-    let count = walk.next("range count");
-    walk.next("first range");
-    walk.pairs(count.unwrap_or(0), "gap", "range length");
-    if kind == Some(ACK_WITH_COUNTS) {
-        for name in ["ECT(0) count", "ECT(1) count", "CE count"] {
-            walk.next(name);
-        }
-    }
-    walk
-}
-
-/// What a field of an ACK_FREQUENCY frame says.
-fn says_frequency(field: &Field) -> String {
-    let value = grouped(field.value);
-    match (field.name, field.value) {
-        ("type", _) => "ACK_FREQUENCY".to_string(),
-        ("ack-eliciting threshold", _) => format!("{value}: due by count when more ack-eliciting packets have come"),
-        ("requested maximum delay", _) => format!("{value} us"),
-        ("reordering threshold", 0) => "0: never due by order".to_string(),
-        ("reordering threshold", 1) => "1: due by order as RFC 9000 has it".to_string(),
-        ("reordering threshold", _) => format!("{value}: due by order when a missing number lies so far below"),
-        _ => value,
-    }
-}
-
-/// What a field of an ACK frame says; fields 4, 6, 8 .. are ranges, and the gaps stand between them.
-fn says_ack(index: usize, field: &Field, pairs: &[u64]) -> String {
-    let value = grouped(field.value);
-    let numbers = |first: u64, last: u64, word: &str| match last - first {
-        0 => format!("{value}: {} {word}", grouped(first)),
-        _ => format!("{value}: {} to {} {word}", grouped(first), grouped(last)),
-    };
-    match (field.name, index) {
-        ("type", _) if field.value == ACK_WITH_COUNTS => "ACK with the counts of marks".to_string(),
-        ("type", _) => "ACK".to_string(),
-        ("ECT(0) count" | "ECT(1) count" | "CE count", _) => format!("{value} packets so far"),
-        ("delay", _) => format!("{value} in the unit that its writer announced"),
-        ("range count", _) => format!("{value} behind the first range"),
-        ("first range" | "range length", _) => numbers(pairs[index - 4], pairs[index - 3], "came"),
-        ("gap", _) => numbers(pairs[index - 2] + 1, pairs[index - 5] - 1, "missing"),
-        _ => value,
-    }
-}
-
-fn put(frame: &Frame, bytes: &[u8], base: usize, output: &mut Output) {
-    let walk = walk(bytes);
-    let (name, rows) = match frame {
-        Frame::Immediate => {
-            ("IMMEDIATE_ACK", walk.rows(base, |_, _| "IMMEDIATE_ACK: the sender asks for an acknowledgment".into()))
-        }
-        Frame::Frequency(_) => ("ACK_FREQUENCY", walk.rows(base, |_, field| says_frequency(field))),
-        Frame::Ack(_, _, pairs, _) => ("ACK", walk.rows(base, |index, field| says_ack(index, field, pairs))),
-    };
-    output.put(&format!("{name}, {} at byte {base}\n{}", counted(bytes.len(), "byte"), table(&rows)));
-}
-
-fn object(frame: &Frame, length: usize, object: Object) -> Object {
-    match frame {
-        Frame::Immediate => object.text("frame", "IMMEDIATE_ACK").plain("length", length),
-        Frame::Frequency(frame) => {
-            let object = object.text("frame", "ACK_FREQUENCY").plain("length", length).plain("sequence", frame.sequence);
-            object.plain("threshold", frame.threshold).plain("delay_us", frame.delay.0).plain("reordering", frame.reordering)
-        }
-        Frame::Ack(largest, delay, pairs, counts) => {
-            let ranges = array(pairs.chunks_exact(2).map(|pair| format!("[{},{}]", pair[0], pair[1])));
-            let object = object.text("frame", "ACK").plain("length", length).plain("largest", largest);
-            let object = object.plain("delay", delay).plain("ranges", ranges);
-            counts
-                .iter()
-                .fold(object, |object, Counts { ect0, ect1, ce }| object.plain("ect0", ect0).plain("ect1", ect1).plain("ce", ce))
+        Err(refusal) => {
+            let mut fault = Fault::find(refusal, &walk(rest), |bytes| read(bytes).err() == Some(refusal));
+            if refusal == Refusal::OtherType {
+                fault.field = types::words(rest);
+            }
+            if json {
+                output.put(&(fault.object(base, start().plain("frame", "null")).end() + "\n"));
+            } else {
+                fault.put(base, "frame", output);
+            }
+            None
         }
     }
 }
 
-/// The frames of a run of bytes, of a file or given as digits, up to its end or the first refusal.
+/// The frames of a run of bytes, of a file or given as digits, up to its end or the first refusal. Says whether there was one.
 fn run_of(name: Option<&str>, bytes: &[u8], form: Form, output: &mut Output) -> Result<bool, Failed> {
     let mut base = 0;
     loop {
-        let rest = &bytes[base..];
-        let start = || Object::new().words("file", name).plain("at", base);
-        match read(rest) {
-            Ok((frame, length)) => {
-                if form == Form::Json {
-                    output.put(&(object(&frame, length, start()).result(0).end() + "\n"));
-                } else {
-                    put(&frame, &rest[..length], base, output);
-                }
-                base += length;
-            }
-            Err(refusal) => {
-                let fault = Fault::find(refusal, &walk(rest), |bytes| read(bytes).err() == Some(refusal));
-                if form == Form::Json {
-                    output.put(&(fault.object(base, start().plain("frame", "null")).end() + "\n"));
-                } else {
-                    fault.put(base, "frame", output);
-                }
-                output.flush()?;
-                return Ok(true);
-            }
-        }
-        if base == bytes.len() || output.lines.len() > MANY {
-            output.flush()?;
+        match next(name, &bytes[base..], base, form, output) {
+            Some(length) => base += length,
+            None => return output.flush().map(|()| true),
         }
         if base == bytes.len() {
-            return Ok(false);
+            return output.flush().map(|()| false);
+        }
+        if output.lines.len() > MANY {
+            output.flush()?;
         }
     }
 }
 
-/// The bytes that hexadecimal digits in pairs stand for; blanks between them are allowed.
-fn digits(word: &OsStr) -> Option<Vec<u8>> {
-    let digits: String = word.to_str()?.split_whitespace().collect();
-    let wrong = digits.is_empty() || digits.len() % 2 != 0 || !digits.bytes().all(|digit| digit.is_ascii_hexdigit());
-    let pair = |at| u8::from_str_radix(&digits[at..at + 2], 16).ok();
-    if wrong {
-        None
-    } else {
-        (0..digits.len()).step_by(2).map(pair).collect()
+/// The bytes of a file; of one that begins with another type only the start, however long it is.
+fn frames_of(input: &mut Input) -> Result<Vec<u8>, Trouble> {
+    let mut bytes = input::up_to(input, START)?;
+    let begins = passed_over(&bytes).is_some() || read(&bytes).err() != Some(Refusal::OtherType);
+    // digits are no frame yet
+    if begins || bytes.is_ascii() {
+        bytes.extend(input::whole(input)?);
     }
+    Ok(bytes)
+}
+
+/// The bytes of an input. Standard input may hold them as digits: no frame that is read here begins with one.
+fn bytes_of(name: &OsStr, bytes: Vec<u8>) -> Vec<u8> {
+    let digits = if input::is_standard(name) { std::str::from_utf8(&bytes).ok().and_then(hex::parse) } else { None };
+    digits.unwrap_or(bytes)
 }
 
 /// A run of bytes to read: its digits in a row, or a file.
@@ -198,7 +109,7 @@ enum Source {
 fn sources(operands: &[OsString]) -> Vec<Source> {
     let mut sources = Vec::new();
     for word in operands {
-        match (digits(word), sources.last_mut()) {
+        match (word.to_str().and_then(hex::parse), sources.last_mut()) {
             (Some(more), Some(Source::Hex(bytes))) => bytes.extend(more),
             (Some(bytes), _) => sources.push(Source::Hex(bytes)),
             (None, _) => sources.push(Source::File(word.clone())),
@@ -222,8 +133,12 @@ pub fn run(options: &Options, output: &mut Output) -> Result<Status, Failed> {
         let now = match source {
             Source::Hex(bytes) => judged(run_of(None, bytes, options.form, output)?),
             Source::File(name) => input::each(std::slice::from_ref(name), false, output, |name, input, output| {
-                let bytes = input::whole(input)?;
-                run_of(Some(&name.to_string_lossy()), &bytes, options.form, output).map(judged).map_err(Trouble::Output)
+                let bytes = bytes_of(name, frames_of(input)?);
+                let refused = run_of(Some(&name.to_string_lossy()), &bytes, options.form, output).map_err(Trouble::Output)?;
+                if refused {
+                    looks::hint(Command::Frame, input, false);
+                }
+                Ok(judged(refused))
             })?,
         };
         status = status.max(now);

@@ -24,6 +24,7 @@ pub fn of(command: Command) -> String {
         Command::Frame => FRAME,
         Command::Report => REPORT,
         Command::Week => WEEK,
+        Command::Objects => OBJECTS,
     };
     format!("{text}{STATUS}")
 }
@@ -36,9 +37,11 @@ Says what a receiver of a live hearing answers, and what frames and reports hold
   frame HEX|FILE..  reads ACK, ACK_FREQUENCY and IMMEDIATE_ACK frames, field by field
   report FILE..     reads feedback reports, field by field, and their entries
   week [FILE..]     adds up a week's feedback reports: one page
+  objects [FILE..]  says and draws what reports say of each object, from lines of statuses
 
-  --help            says this; after a command, what that command takes
-  --version         prints the version
+  help COMMAND      says what that command takes
+  -h, --help        says this; after a command, what that command takes
+  -V, --version     prints the version
 
 - in place of a FILE is standard input.
 ";
@@ -53,9 +56,12 @@ one, and for -, it reads standard input, and answers what has come.
   --words           says each line in a sentence
   --json            prints one object a line, for machines
   --picture OUT     also draws the hearing, as SVG, to the file OUT
+  --page OUT        also makes a page with the picture, tables and refusals in words, as HTML
+  --from T, --to T  draws the part from T on, and the part before T: since the first record,
+                    such as 250ms, 1.5s, 12min or 1:02:03
   --strict          exit status 1 where a record was refused
-  --help            says this
-  --version         prints the version
+  -h, --help        says this
+  -V, --version     prints the version
 ";
 
 const FRAME: &str = "lumbixet frame [OPTION..] HEX|FILE..
@@ -67,8 +73,8 @@ a name like digits, say ./02). - is standard input.
 
   --json            prints one object a line, for machines
   --strict          exit status 1 where a frame was refused
-  --help            says this
-  --version         prints the version
+  -h, --help        says this
+  -V, --version     prints the version
 ";
 
 const REPORT: &str = "lumbixet report [OPTION..] FILE..
@@ -79,20 +85,41 @@ or what was refused and where. - is standard input.
   --profile N       the profile of the reports: 1, or 2 for entries with a group; without it 1
   --json            prints one object a line, for machines
   --strict          exit status 1 where a report was refused
-  --help            says this
-  --version         prints the version
+  -h, --help        says this
+  -V, --version     prints the version
 ";
 
 const WEEK: &str = "lumbixet week [OPTION..] [FILE..]
 
-Adds up the feedback reports of a file, each after its length of four bytes with the high byte first,
-and prints one page: reports accepted, reports refused for each number that occurs, the four totals of
+Adds up the feedback reports of all FILEs, each report after its length of four bytes with the high byte
+first, and prints one page: reports accepted, reports refused for each number that occurs, the four totals of
 the accepted summaries, and their entries by status. A number that would pass 2^64 - 1 stays there and
-is marked full. A report longer than 8,192 bytes is refused with 20. A file that ends early prints 2
-alone. Each FILE is a week of its own. Without one, and for -, it reads standard input.
+is marked full. A report longer than 8,192 bytes is refused with 20. Where a file ends early it prints 2
+alone. Without a FILE, and for -, it reads standard input.
 
+  --words           says it in sentences, with percentages and, where they are known, dates
   --json            prints one object a line, for machines
+  --each            has a row for each FILE, and one for all of them
+  --picture OUT     also draws the totals, as SVG, to the file OUT
+  --page OUT        also makes a page with the picture, tables and refusals in words, as HTML
   --strict          exit status 1 where a report was refused or a file ends early
-  --help            says this
-  --version         prints the version
+  -h, --help        says this
+  -V, --version     prints the version
+";
+
+const OBJECTS: &str = "lumbixet objects [OPTION..] [FILE..]
+
+Reads lines of statuses, one for each report of a hearing's tracker, as examples/objects.c prints them: the
+time in microseconds, a letter for each object in a row (R received, L late, - not received, P partial, a dot
+where nothing is said yet) and the summary. Other lines are remarks on the report that follows. It prints
+the lines as they are. Without a FILE, and for -, it reads standard input.
+
+  --words           says in sentences which objects have which status
+  --json            prints one object a line, for machines
+  --first N         the number of the first object; without it 0
+  --picture OUT     also draws the statuses, as SVG, to the file OUT
+  --page OUT        also makes a page with the picture and the sentences, as HTML
+  --strict          exit status 1 where no line has statuses
+  -h, --help        says this
+  -V, --version     prints the version
 ";

@@ -2,8 +2,9 @@
 
 use std::ffi::{OsStr, OsString};
 use std::fs::File;
-use std::io::{self, ErrorKind, Read, Write};
+use std::io::{ErrorKind, Read, Write};
 
+use crate::looks::HEAD;
 use crate::output::{self, complain, Failed, Output, Status};
 use crate::system;
 
@@ -29,6 +30,9 @@ pub struct Input {
     file: File,
     name: String,
     progress: Option<Progress>,
+    /// The first bytes, and how many were read in all.
+    head: Vec<u8>,
+    length: u64,
 }
 
 impl Input {
@@ -37,7 +41,7 @@ impl Input {
         let opened = if is_standard(name) { output::descriptor(system::INPUT).try_clone() } else { File::open(name) };
         let file = opened.map_err(named)?;
         let progress = Progress::of(&file);
-        Ok(Input { file, name: said(name), progress })
+        Ok(Input { file, name: said(name), progress, head: Vec::new(), length: 0 })
     }
 
     /// Reads what has come, at most as much as the buffer holds; 0 is the end of the input.
@@ -48,6 +52,11 @@ impl Input {
                     if let Some(progress) = &mut self.progress {
                         progress.note(&self.name, count as u64);
                     }
+                    if self.head.len() < HEAD {
+                        let more = count.min(HEAD - self.head.len());
+                        self.head.extend_from_slice(&buffer[..more]);
+                    }
+                    self.length += count as u64;
                     return Ok(count);
                 }
                 Err(reason) if reason.kind() == ErrorKind::Interrupted => {}
@@ -56,15 +65,27 @@ impl Input {
         }
     }
 
-    fn read_whole(&mut self) -> Result<Vec<u8>, Failed> {
+    /// The bytes at the start of what was read, and whether they are all of it.
+    pub fn head(&self) -> (&[u8], bool) {
+        (&self.head, self.head.len() as u64 == self.length)
+    }
+
+    /// The name as messages have it.
+    pub fn name(&self) -> &str {
+        &self.name
+    }
+
+    /// All bytes, or so many and a few more.
+    fn read_whole(&mut self, most: usize) -> Result<Vec<u8>, Failed> {
         let mut bytes = Vec::new();
         let mut part = vec![0; 1 << 16];
-        loop {
+        while bytes.len() <= most {
             match self.read(&mut part)? {
-                0 => return Ok(bytes),
+                0 => break,
                 count => bytes.extend_from_slice(&part[..count]),
             }
         }
+        Ok(bytes)
     }
 }
 
@@ -156,11 +177,10 @@ pub enum Trouble {
 
 /// All bytes of a file.
 pub fn whole(input: &mut Input) -> Result<Vec<u8>, Trouble> {
-    input.read_whole().map_err(Trouble::Input)
+    up_to(input, usize::MAX)
 }
 
-/// Writes a whole file.
-pub fn save(name: &OsStr, bytes: &[u8]) -> Result<(), Failed> {
-    let saved: io::Result<()> = File::create(name).and_then(|mut file| file.write_all(bytes));
-    saved.map_err(|reason| Failed { name: said(name), reason })
+/// All bytes of a file, or of a longer one at least so many.
+pub fn up_to(input: &mut Input, most: usize) -> Result<Vec<u8>, Trouble> {
+    input.read_whole(most).map_err(Trouble::Input)
 }

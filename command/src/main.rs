@@ -7,21 +7,44 @@
 #![no_main]
 
 mod arguments;
+mod axis;
+mod bars;
+mod bins;
+mod dates;
 mod event;
 mod fields;
 mod frame;
+mod frames;
+mod gaps;
+mod guess;
+mod hearing_page;
 mod help;
+mod hex;
 mod input;
 mod json;
-mod marks;
+mod kinds;
+mod looks;
+mod moments;
+mod objects;
+mod objects_picture;
 mod output;
+mod packets;
+mod page;
 mod picture;
 mod replay;
 mod report;
+mod save;
+mod strips;
+mod sums;
+mod svg;
 mod system;
+mod tally;
 mod text;
-mod trace;
+mod types;
 mod week;
+mod week_page;
+mod week_picture;
+mod week_words;
 mod words;
 
 use crate::arguments::{Asked, Command};
@@ -43,6 +66,12 @@ pub extern "C" fn main(_count: i32, _words: *const *const u8) -> i32 {
 
 /// Does what was asked. An output that fails ends the run at once; an input that fails is named, and the next one is read.
 fn run(asked: &Asked) -> Status {
+    if let Asked::Run(_, options) = asked {
+        if let Err(why) = save::look(&options.operands, &options.wanted()) {
+            output::complain(&why);
+            return Status::WrongUse;
+        }
+    }
     let mut output = Output::standard();
     let done = match asked {
         Asked::Help(text) => output.print(text).map(|()| Status::Done),
@@ -51,6 +80,7 @@ fn run(asked: &Asked) -> Status {
         Asked::Run(Command::Frame, options) => frame::run(options, &mut output),
         Asked::Run(Command::Report, options) => report::run(options, &mut output),
         Asked::Run(Command::Week, options) => week::run(options, &mut output),
+        Asked::Run(Command::Objects, options) => objects::run(options, &mut output),
     };
     done.unwrap_or_else(|failed| {
         output::complain(&failed.to_string());

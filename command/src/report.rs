@@ -2,12 +2,16 @@
 
 use lumbixet::{Entry, Metrics, Profile, Refusal, Report, Status as Became};
 
-use crate::arguments::{Form, Options};
+use crate::arguments::{Command, Form, Options};
 use crate::fields::{table, Fault, Field, Walk};
 use crate::input::{self, Trouble};
 use crate::json::{array, Object};
+use crate::looks;
 use crate::output::{Failed, Output, Status};
 use crate::text::{counted, grouped};
+
+/// No report is longer: 200 entries of 24 bytes, and fewer numbers than that. What follows cannot change the refusal.
+const LONG: usize = 1 << 16;
 
 /// The fields before the entries.
 fn walk(bytes: &[u8]) -> Walk<'_> {
@@ -72,18 +76,18 @@ fn put(profile: Profile, report: &Report, bytes: &[u8], output: &mut Output) {
 }
 
 fn metrics(metrics: &Metrics) -> String {
-    metrics.iter().fold(Object::new(), |object, (kind, value)| object.plain(&metric_names(kind).1, value)).end()
+    metrics.iter().fold(Object::new(), |object, (kind, value)| object.number(&metric_names(kind).1, value)).end()
 }
 
 fn object(profile: Profile, report: &Report, object: Object) -> Object {
     let header = &report.header;
     let entry = |entry: Entry| {
-        let start = if profile == Profile::Two { Object::new().plain("group", entry.group) } else { Object::new() };
-        start.plain("object", entry.object).text("status", became(entry.status)).plain("age_us", entry.age).end()
+        let start = if profile == Profile::Two { Object::new().number("group", entry.group) } else { Object::new() };
+        start.number("object", entry.object).text("status", became(entry.status)).number("age_us", entry.age).end()
     };
-    let object = object.result(0).plain("timestamp_us", header.timestamp.0).plain("interval_us", header.interval.0);
-    let object = object.plain("total", header.total).plain("received", header.received).plain("late", header.late);
-    let object = object.plain("lost", header.lost).plain("average_us", header.average);
+    let object = object.result(0).number("timestamp_us", header.timestamp.0).number("interval_us", header.interval.0);
+    let object = object.number("total", header.total).number("received", header.received).number("late", header.late);
+    let object = object.number("lost", header.lost).number("average_us", header.average);
     object.plain("metrics", metrics(&header.metrics)).plain("entries", array(report.entries.iter().map(entry)))
 }
 
@@ -119,7 +123,7 @@ pub fn run(options: &Options, output: &mut Output) -> Result<Status, Failed> {
     let json = options.form == Form::Json;
     let profile = options.profile.unwrap_or_default();
     input::each(&options.operands, !json, output, |name, input, output| {
-        let bytes = input::whole(input)?;
+        let bytes = input::up_to(input, LONG)?;
         let start = Object::new().text("file", &name.to_string_lossy());
         let answer = Report::read(profile, &bytes);
         match &answer {
@@ -129,6 +133,9 @@ pub fn run(options: &Options, output: &mut Output) -> Result<Status, Failed> {
             Err(refusal) => fault(profile, *refusal, &bytes).put(0, "report", output),
         }
         output.flush().map_err(Trouble::Output)?;
+        if answer.is_err() {
+            looks::hint(Command::Report, input, false);
+        }
         Ok(if answer.is_err() && options.strict { Status::Refused } else { Status::Done })
     })
 }

@@ -56,12 +56,20 @@ pub fn grouped(number: impl ToString) -> String {
 }
 
 /// So many of a thing; an `s` makes the plural.
-pub fn counted(number: usize, thing: &str) -> String {
-    format!("{} {thing}{}", grouped(number), if number == 1 { "" } else { "s" })
+pub fn counted(number: impl ToString, thing: &str) -> String {
+    let number = number.to_string();
+    format!("{} {thing}{}", grouped(&number), if number == "1" { "" } else { "s" })
 }
 
-/// Bytes in hexadecimal, a blank between them.
-pub fn hex(bytes: &[u8]) -> String {
-    let pairs: Vec<String> = bytes.iter().map(|byte| format!("{byte:02x}")).collect();
-    pairs.join(" ")
+/// A share in brackets, ` (2.5 %)`, to a tenth; nothing of nothing. Neither none nor all is said of a part that is not.
+pub fn percent(part: u64, whole: u64) -> String {
+    if whole == 0 || part > whole {
+        return String::new();
+    }
+    let tenths = (u128::from(part) * 2_000 + u128::from(whole)) / (2 * u128::from(whole));
+    match tenths {
+        0 if part > 0 => " (below 0.1 %)".to_string(),
+        1000 if part < whole => " (above 99.9 %)".to_string(),
+        _ => format!(" ({}.{} %)", tenths / 10, tenths % 10),
+    }
 }

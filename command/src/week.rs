@@ -1,84 +1,156 @@
-//! `lumbixet week`: the page of a file of feedback reports, as lines or as an object.
+//! `lumbixet week`: the page over files of feedback reports, as lines, in words or as objects; a picture, and a page in HTML.
 
-use std::ffi::OsStr;
+use std::ffi::OsString;
 
-use lumbixet::{Status as Became, Sum, Week, PAGE_ROOM};
+use lumbixet::{Sum, PAGE_ROOM};
 
-use crate::arguments::{Form, Options};
-use crate::input::{self, Input, Trouble};
+use crate::arguments::{Command, Form, Options};
+use crate::fields::table;
+use crate::input::{self, said};
 use crate::json::{array, quoted, Object};
-use crate::output::{Failed, Output, Status};
+use crate::looks;
+use crate::output::{complain, Failed, Output, Status};
+use crate::save;
+use crate::sums::{read, shown, Sums};
+use crate::week_page;
+use crate::week_picture;
+use crate::week_words;
 
-/// How many bytes are read at most at a time; the longest report that is read has room in it.
-const PIECE: usize = 1 << 16;
-
-/// "2 alone for a file that ends early"
-const EARLY: &[u8] = b"2\n";
+/// The refusal of a file that ends early.
 const ENDS: u64 = 2;
 
-const STATUSES: [(Became, &str); 4] =
-    [(Became::Received, "received"), (Became::Late, "late"), (Became::NotReceived, "not received"), (Became::Partial, "partial")];
+/// What was read: each file by itself where that is asked for, and all of them in a row.
+pub struct Weeks {
+    pub each: Vec<(String, Sums)>,
+    pub all: Sums,
+}
 
 pub fn run(options: &Options, output: &mut Output) -> Result<Status, Failed> {
-    let json = options.form == Form::Json;
-    input::each(&options.operands, !json, output, |name, input, output| {
-        let mut week = Week::open();
-        let left = read(&mut week, input)?;
-        let mut buffer = [0; PAGE_ROOM];
-        // there is room for every page
-        let page = week.page(left, &mut buffer).unwrap_or_default();
-        let early = page == EARLY;
-        if json {
-            output.put(&(object(name, &week, early) + "\n"));
-        } else {
-            output.lines.extend_from_slice(page);
+    let shows = options.form == Form::Words || options.picture.is_some() || options.page.is_some();
+    let mut weeks = Weeks { each: Vec::new(), all: Sums::new() };
+    let mut status = input::each(&options.operands, false, output, |name, input, _| {
+        let mut own = Sums::new();
+        // behind a file that ended early there is no page over all
+        match weeks.all.early {
+            true => read(input, &mut [&mut own], shows)?,
+            false => read(input, &mut [&mut own, &mut weeks.all], shows)?,
         }
-        output.flush().map_err(Trouble::Output)?;
-        let refused = early || week.refusals().next().is_some();
-        Ok(if options.strict && refused { Status::Refused } else { Status::Done })
-    })
+        if own.early || own.week.accepted().value == 0 && own.refused() {
+            looks::hint(Command::Week, input, false);
+        }
+        if own.early && options.operands.len() > 1 {
+            complain(&format!("{}: the file ends early, so there are no totals over all files", said(name)));
+        }
+        let refused = options.strict && own.refused();
+        weeks.each.push((said(name), own));
+        Ok(if refused { Status::Refused } else { Status::Done })
+    })?;
+    // a file that cannot be read would be missing in every total
+    let whole = status != Status::Failed;
+    put(options, &weeks, whole, output);
+    output.flush()?;
+    if let (Some(name), true) = (&options.picture, whole) {
+        save::save(name, week_picture::draw(&weeks.all).as_bytes())?;
+    }
+    if let (Some(name), true) = (&options.page, whole) {
+        save::save(name, week_page::make(&weeks).as_bytes())?;
+    }
+    if weeks.each.iter().any(|(_, sums)| sums.refused()) && options.strict {
+        status = status.max(Status::Refused);
+    }
+    Ok(status)
 }
 
-/// Reads the file to its end. Answers how many bytes are left that are no whole report.
-fn read(week: &mut Week, input: &mut Input) -> Result<usize, Trouble> {
-    let mut piece = vec![0; PIECE];
-    let mut left = 0;
-    loop {
-        let count = input.read(&mut piece[left..]).map_err(Trouble::Input)?;
-        if count == 0 {
-            return Ok(left);
+/// What was asked for on standard output: over all files where they are whole, and before that each where `--each` asks for it.
+fn put(options: &Options, weeks: &Weeks, whole: bool, output: &mut Output) {
+    let each = if options.each { &weeks.each[..] } else { &[] };
+    let all = whole.then_some(&weeks.all);
+    match options.form {
+        Form::Plain if options.each => output.put(&table(&rows(weeks, all))),
+        Form::Plain => all.into_iter().for_each(|all| output.lines.extend(all.page(&mut [0; PAGE_ROOM]))),
+        Form::Words => {
+            for (place, (name, sums)) in each.iter().enumerate() {
+                output.put(&format!("{}==> {name} <==\n{}", if place > 0 { "\n" } else { "" }, week_words::sentences(sums)));
+            }
+            if let Some(all) = all {
+                output.put(if options.each { "\n==> all files <==\n" } else { "" });
+                output.put(&week_words::sentences(all));
+            }
         }
-        let end = left + count;
-        let used = week.piece(&piece[..end]);
-        piece.copy_within(used..end, 0);
-        left = end - used;
+        Form::Json => {
+            for ((_, sums), name) in each.iter().zip(&options.operands) {
+                output.put(&(object(Object::new().text("file", &name.to_string_lossy()), sums) + "\n"));
+            }
+            if let Some(all) = all {
+                output.put(&(object(named(&options.operands, options.each), all) + "\n"));
+            }
+        }
     }
 }
+
+/// The object over all files names the only one as `file`, and several as `files`.
+fn named(operands: &[OsString], each: bool) -> Object {
+    match operands {
+        [only] if !each => Object::new().text("file", &only.to_string_lossy()),
+        _ => Object::new().plain("files", array(operands.iter().map(|name| quoted(&name.to_string_lossy())))),
+    }
+}
+
+/// A row for each file, and one for all of them.
+pub fn rows(weeks: &Weeks, all: Option<&Sums>) -> Vec<Vec<String>> {
+    let mut rows = vec![HEADINGS.map(str::to_string).to_vec()];
+    rows.extend(weeks.each.iter().map(|(name, sums)| row(name, sums)));
+    rows.extend(all.map(|all| row("all files", all)));
+    rows
+}
+
+/// As the lines of a page are named.
+pub const HEADINGS: [&str; 11] = [
+    "file",
+    "accepted",
+    "refused",
+    "total",
+    "received",
+    "late",
+    "lost",
+    "entries received",
+    "entries late",
+    "entries not received",
+    "entries partial",
+];
+
+fn row(name: &str, sums: &Sums) -> Vec<String> {
+    if sums.early {
+        return vec![name.to_string(), "ends early".to_string()];
+    }
+    let numbers = [sums.week.accepted(), sums.refused_in_all()].into_iter();
+    let objects = sums.objects().into_iter().chain(sums.entries()).map(|(_, sum)| sum);
+    std::iter::once(name.to_string()).chain(numbers.chain(objects).map(shown)).collect()
+}
+
+type Named = (String, Sum);
 
 /// The object of a page. Of a file that ends early it has no totals.
-fn object(file: &OsStr, week: &Week, early: bool) -> String {
-    let object = Object::new().text("file", &file.to_string_lossy());
-    if early {
-        return object.result(ENDS).end();
+fn object(start: Object, sums: &Sums) -> String {
+    if sums.early {
+        return start.result(ENDS).end();
     }
+    let week = &sums.week;
     let refused: Vec<Named> = week.refusals().map(|(refusal, sum)| (refusal.number().to_string(), sum)).collect();
-    let entries: Vec<Named> = STATUSES.iter().map(|(status, name)| (name.to_string(), week.entries(*status))).collect();
-    let totals = [("total", week.total()), ("received", week.received()), ("late", week.late()), ("lost", week.lost())];
-    let mut object = object.result(0).plain("accepted", week.accepted().value).plain("refused", members(&refused));
-    for (name, sum) in totals {
-        object = object.plain(name, sum.value);
+    let entries: Vec<Named> = sums.entries().iter().map(|(name, sum)| (name.to_string(), *sum)).collect();
+    let mut object = start.result(0).number("accepted", week.accepted().value).plain("refused", members(&refused));
+    for (name, sum) in sums.objects() {
+        object = object.number(name, sum.value);
     }
     // the lines of the page that are marked "full", by their names
     let lines = std::iter::once(("accepted".to_string(), week.accepted()));
     let lines = lines.chain(refused.iter().map(|(number, sum)| (format!("refused {number}"), *sum)));
-    let lines = lines.chain(totals.iter().map(|(name, sum)| (name.to_string(), *sum)));
+    let lines = lines.chain(sums.objects().into_iter().map(|(name, sum)| (name.to_string(), sum)));
     let lines = lines.chain(entries.iter().map(|(name, sum)| (format!("entries {name}"), *sum)));
     let full = array(lines.filter(|(_, sum)| sum.full).map(|(name, _)| quoted(&name)));
     object.plain("entries", members(&entries)).plain("full", full).end()
 }
 
-type Named = (String, Sum);
-
 fn members(sums: &[Named]) -> String {
-    sums.iter().fold(Object::new(), |object, (name, sum)| object.plain(name, sum.value)).end()
+    sums.iter().fold(Object::new(), |object, (name, sum)| object.number(name, sum.value)).end()
 }

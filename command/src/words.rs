@@ -6,13 +6,21 @@ use crate::event::{Event, Told, IMMEDIATE, PACKET, TIMER, WRITE};
 use crate::output::{Colour, Output};
 use crate::text::{counted, grouped};
 
+/// How a part of a sentence is painted.
+pub type Paint<'a> = &'a dyn Fn(Colour, &str) -> String;
+
 pub fn put(told: &Told, output: &mut Output) {
+    let sentence = sentence(told, &|colour, text| output.painted(colour, text));
+    output.put(&sentence);
+    output.put("\n");
+}
+
+pub fn sentence(told: &Told, paint: Paint) -> String {
     let answer = match told.result {
         0 => "accepted".to_string(),
-        number => output.painted(Colour::Red, &format!("refused ({number}: {})", Refusal::from_number(number))),
+        number => paint(Colour::Red, &format!("refused ({number}: {})", Refusal::from_number(number))),
     };
-    let sentence = format!("{}: {}: {answer}; {}.\n", told.index, what(told), due(told, output));
-    output.put(&sentence);
+    format!("{}: {}: {answer}; {}.", told.index, what(told), due(told, paint))
 }
 
 fn what(told: &Told) -> String {
@@ -40,10 +48,10 @@ fn kind_of_packet(event: &Event) -> &'static str {
     }
 }
 
-fn due(told: &Told, output: &Output) -> String {
+fn due(told: &Told, paint: Paint) -> String {
     match Cause::from_number(told.cause) {
         None => "nothing is due".to_string(),
         Some(cause) if told.before == told.cause => format!("an acknowledgment is still due, since {cause}"),
-        Some(cause) => output.painted(Colour::Yellow, &format!("an acknowledgment is now due, since {cause}")),
+        Some(cause) => paint(Colour::Yellow, &format!("an acknowledgment is now due, since {cause}")),
     }
 }

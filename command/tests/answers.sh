@@ -37,6 +37,21 @@ ends 'every kind of event, in words' 0 "$tests/odd.words"
 run ./lumbixet replay --json odd.trace
 ends 'every kind of event, for machines' 0 "$tests/odd.json"
 
+# Each mark, the bytes of an acknowledgment, and numbers at and above 2^53
+{ event 1 5 9007199254740992 9007199254740993 && event 1 8 9007199254740993 4611686018427387903 && event 1 14 1 0 && event 3 0 0 0; } >marks.trace
+force='"threshold":1000,"reordering":3,"delay_us":25000}'
+order='"cause":3,"due":"packets are missing or came out of order"'
+cat >marks.json <<END
+{"file":"marks.trace","index":0,"event":"packet","number":9007199254740992,"time_us":"9007199254740993","ack_eliciting":true,"mark":"ECT(0)","result":0,"refusal":null,$order,$force
+{"file":"marks.trace","index":1,"event":"packet","number":"9007199254740993","time_us":"4611686018427387903","ack_eliciting":false,"mark":"ECT(1)","result":0,"refusal":null,$order,$force
+{"file":"marks.trace","index":2,"event":"packet","number":1,"time_us":0,"ack_eliciting":false,"mark":"CE","result":7,"refusal":"this packet lies below the window",$order,$force
+{"file":"marks.trace","index":3,"event":"write","time_us":0,"length":12,"bytes":"02c020000000000001000001","result":0,"refusal":null,"cause":0,"due":null,$force
+END
+run ./lumbixet replay --json marks.trace
+ends 'marks, bytes and large numbers, for machines' 0 marks.json
+run python3 -c 'import json; [json.loads(line) for line in open("marks.json")]'
+ends 'that is JSON' 0 empty
+
 run ./lumbixet replay --picture drawn.svg "$top/examples/hearing.trace"
 run cat drawn.svg
 ends 'the picture' 0 "$top/examples/hearing.svg"
@@ -66,15 +81,53 @@ ends 'frames from standard input' 0 "$tests/frames.words"
 run ./lumbixet frame 1f frames
 ends 'digits and a file' 0 both
 
+# Digits as people paste them, and on standard input
+run ./lumbixet frame 0x40 0xaf 05:0a:80:00:61:a8:03 1F '0X02050001020001' 03:05:00:01:02:00:01:04:00:40:40
+ends 'frames with 0x and colons' 0 "$tests/frames.words"
+printf '40af 05 0a\n80:00:61:a8 03 0x1f\n02 05 00 01 02 00 01\n03 05 00 01 02 00 01 04 00 40 40\n' >frames.hex
+run ./lumbixet frame - <frames.hex
+ends 'frames as digits from standard input' 0 "$tests/frames.words"
+for word in 4 0x 0x4 02:5 g0 ''; do
+    run ./lumbixet frame "$word"
+    ends "no digits in pairs: '$word'" 3 empty "lumbixet: ${word:-''}: No such file or directory"
+done
+
+# PADDING and PING are passed over
+cat >padded.words <<'END'
+PADDING, 3 bytes at byte 0
+PING, 1 byte at byte 3
+PING, 1 byte at byte 4
+IMMEDIATE_ACK, 1 byte at byte 5
+  5  1f  type  IMMEDIATE_ACK: the sender asks for an acknowledgment
+PADDING, 1 byte at byte 6
+END
+run ./lumbixet frame --strict 00 00 00 01 01 1f 00
+ends 'PADDING and PING' 0 padded.words
+cat >padded.json <<'END'
+{"file":null,"at":0,"frame":"PADDING","length":2,"result":0,"refusal":null}
+{"file":null,"at":2,"frame":"PING","length":1,"result":0,"refusal":null}
+{"file":null,"at":3,"frame":null,"result":3,"refusal":"the frame type is another one","place":3,"field":"type: STREAM, which is not read here"}
+END
+run ./lumbixet frame --json 00 00 01 0a
+ends 'PADDING and PING for machines' 0 padded.json
+
 # DIGITS, and the line that they give.
 refused_frame() {
     echo "frame refused ($2" >line
     run ./lumbixet frame --strict "$1"
     ends "the frame $1" 1 line
 }
-refused_frame 401f '3: the frame type is another one) at byte 0, type'
-refused_frame 04 '3: the frame type is another one) at byte 0, type'
-refused_frame '40 03' '3: the frame type is another one) at byte 0, type'
+refused_frame 401f '3: the frame type is another one) at byte 0, type: IMMEDIATE_ACK, but not in its shortest form'
+refused_frame 04 '3: the frame type is another one) at byte 0, type: RESET_STREAM, which is not read here'
+refused_frame '40 03' '3: the frame type is another one) at byte 0, type: ACK, but not in its shortest form'
+names=(4 RESET_STREAM 5 STOP_SENDING 6 CRYPTO 7 NEW_TOKEN 8 STREAM f STREAM 10 MAX_DATA 11 MAX_STREAM_DATA 12 MAX_STREAMS 13 MAX_STREAMS
+    14 DATA_BLOCKED 15 STREAM_DATA_BLOCKED 16 STREAMS_BLOCKED 17 STREAMS_BLOCKED 18 NEW_CONNECTION_ID 19 RETIRE_CONNECTION_ID
+    1a PATH_CHALLENGE 1b PATH_RESPONSE 1c CONNECTION_CLOSE 1d CONNECTION_CLOSE 1e HANDSHAKE_DONE 30 DATAGRAM)
+for ((at = 0; at < ${#names[@]}; at += 2)); do
+    refused_frame "$(printf '%02x' "0x${names[at]}")" "3: the frame type is another one) at byte 0, type: ${names[at + 1]}, which is not read here"
+done
+refused_frame '40 00' '3: the frame type is another one) at byte 0, type: PADDING, but not in its shortest form'
+refused_frame '20' '3: the frame type is another one) at byte 0, type: 0x20, which is none of RFC 9000'
 refused_frame '03 05 00 00 02 07 40' '2: the bytes end inside a field) at byte 6, ECT(1) count'
 refused_frame 40 '2: the bytes end inside a field) at byte 0, type'
 refused_frame 40af05 '2: the bytes end inside a field) at byte 3, ack-eliciting threshold'
@@ -141,77 +194,3 @@ refused_groups "$summary 00 02 $forty $forty" '12: an entry breaks its rule) at 
 refused_groups "$summary 00 02 $forty 00" '2: the bytes end inside a field) at byte 39, entry 1'
 refused_groups "$summary 09" '10: a metric count, metric type or entry count breaks its rule) at byte 13, metric count'
 refused_groups "$summary 01 03" '10: a metric count, metric type or entry count breaks its rule) at byte 14, metric type'
-
-# ---- a week: the report twice, between them one of no bytes, one of a byte and one with a wrong total
-bytes 00000044 >length
-{ cat length good.report && bytes '00000000' && cat length good.report && bytes '00000001 ff' &&
-    bytes '0000000f 80 0f 42 40 80 01 86 a0 04 01 01 01 03 00 00'; } >short.week
-cat >week.lines <<'END'
-accepted 2
-refused 2 2
-refused 11 1
-total 6
-received 2
-late 2
-lost 2
-entries received 2
-entries late 2
-entries not received 2
-entries partial 0
-END
-run ./lumbixet week short.week
-ends 'a week' 0 week.lines
-run ./lumbixet week <short.week
-ends 'a week from standard input' 0 week.lines
-run ./lumbixet week --strict - <short.week
-ends 'a refused report in a week, and --strict' 1 week.lines
-cat >week.json <<'END'
-{"file":"short.week","result":0,"refusal":null,"accepted":2,"refused":{"2":2,"11":1},"total":6,"received":2,"late":2,"lost":2,"entries":{"received":2,"late":2,"not received":2,"partial":0},"full":[]}
-END
-run ./lumbixet week --json short.week
-ends 'a week for machines' 0 week.json
-
-# A report whose total is 2^62 - 1, five times, and one of 8,193 bytes: totals past 2^64 - 1.
-for _ in 1 2 3 4 5; do bytes '00000017 01 02 ffffffffffffffff ffffffffffffffff 00 00 00 00 00'; done >full.week
-{ bytes '00002001' && head -c 8193 /dev/zero; } >>full.week
-cat >full.lines <<'END'
-accepted 5
-refused 20 1
-total 18446744073709551615 full
-received 18446744073709551615 full
-late 0
-lost 0
-entries received 0
-entries late 0
-entries not received 0
-entries partial 0
-END
-run ./lumbixet week full.week
-ends 'totals past the most' 0 full.lines
-cat >full.json <<'END'
-{"file":"full.week","result":0,"refusal":null,"accepted":5,"refused":{"20":1},"total":18446744073709551615,"received":18446744073709551615,"late":0,"lost":0,"entries":{"received":0,"late":0,"not received":0,"partial":0},"full":["total","received"]}
-END
-run ./lumbixet week --json full.week
-ends 'totals past the most, for machines' 0 full.json
-
-# Cut in a report, in a length, and in a long report.
-echo 2 >two.lines
-for length in 71 74; do
-    head -c $length short.week >cut.week
-    run ./lumbixet week cut.week
-    ends "a week that ends early after $length bytes" 0 two.lines
-done
-{ bytes '00002001' && head -c 8192 /dev/zero; } >cut.week
-run ./lumbixet week cut.week
-ends 'a week that ends early in a long report' 0 two.lines
-run ./lumbixet week --strict cut.week
-ends 'a week that ends early, and --strict' 1 two.lines
-echo '{"file":"cut.week","result":2,"refusal":"the bytes end inside a field"}' >line
-run ./lumbixet week --json cut.week
-ends 'a week that ends early, for machines' 0 line
-{ printf '==> cut.week <==\n2\n\n==> short.week <==\n' && cat week.lines; } >both
-run ./lumbixet week cut.week short.week
-ends 'two weeks' 0 both
-"$top/target/bin/week" <"$top/examples/week.reports" >long.page
-run ./lumbixet week "$top/examples/week.reports"
-ends 'the bundled week' 0 long.page

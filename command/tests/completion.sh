@@ -19,6 +19,10 @@ offers '--help --version' --
 offers '--words' replay --w
 offers '--json' frame --j
 offers '' report --w
+offers '--picture --page' week --p
+offers '' week --pr
+offers 'replay report' help re
+offers '' replay --from ''
 offers '--profile' report --p
 offers '1 2' report --profile ''
 offers '' frame --p
@@ -26,3 +30,17 @@ offers '--json' week --j
 offers 'seven.trace' replay --words seven.t
 offers 'good.report' report good
 offers '' play s
+
+# Every option that is offered is accepted, and every option of the help is offered.
+for name in replay frame report week objects; do
+    COMP_WORDS=(lumbixet "$name" --) COMP_CWORD=2
+    _lumbixet
+    for option in "${COMPREPLY[@]}"; do
+        run ./lumbixet "$name" "$option" </dev/null
+        holds "$name $option is offered" 'unknown option' err not
+    done
+    while read -r option; do
+        tried=$((tried + 1))
+        [[ " ${COMPREPLY[*]} " == *" $option "* ]] || fault "completion of '$name --'" "it does not offer $option"
+    done < <(./lumbixet "$name" --help | grep '^  -' | grep -o -e '--[a-z]*' | sort -u)
+done

@@ -88,10 +88,17 @@ wrong_use() {
     ends "wrong use: $*" 2 empty "lumbixet: $said
 Try 'lumbixet $help--help'."
 }
-wrong_use 'a command is missing: replay, frame, report or week' ''
-wrong_use "unknown command 'play'" '' play
+wrong_use 'a command is missing: replay, frame, report, week or objects' ''
+wrong_use "unknown command 'play'; did you mean 'replay'?" '' play
+wrong_use "unknown command 'wek'; did you mean 'week'?" '' wek
+wrong_use "unknown command 'hlep'; did you mean 'help'?" '' hlep
+wrong_use "unknown command 'hearing.trace'" '' hearing.trace
+wrong_use "unknown command 'xy'" '' xy
+wrong_use "unknown command 'fram'; did you mean 'frame'?" '' help fram
+wrong_use "unknown option --halp; did you mean '--help'?" '' --halp
 wrong_use 'unknown option --words' '' --words
-wrong_use 'unknown option --word' 'replay ' replay --word seven.trace
+wrong_use "unknown option --word; did you mean '--words'?" 'replay ' replay --word seven.trace
+wrong_use '--strict takes no value' 'replay ' replay --strict=yes seven.trace
 wrong_use 'unknown option -w' 'replay ' replay -w seven.trace
 wrong_use 'unknown option --words' 'frame ' frame --words 1f
 wrong_use 'unknown option --picture=x' 'report ' report --picture=x good.report
@@ -104,27 +111,45 @@ wrong_use '--words and --json exclude each other' 'replay ' replay --words --jso
 wrong_use '--picture needs the name of a file to write' 'replay ' replay --picture
 wrong_use '--picture needs the name of a file to write' 'replay ' replay --picture= seven.trace
 wrong_use '--picture is given twice' 'replay ' replay --picture a --picture b seven.trace
-wrong_use '--picture draws one hearing: give one FILE' 'replay ' replay --picture a seven.trace odd.trace
-wrong_use 'unknown option --words' 'week ' week --words short.week
+wrong_use '--first needs a number' 'objects ' objects --first x
+wrong_use '--picture draws one FILE' 'replay ' replay --picture a seven.trace odd.trace
+for time in '' 5 5x s 1:2:3:4 1:x -1s 1.2.3s 99999999999999h; do
+    wrong_use '--from needs a time since the first record, such as 250ms, 1.5s, 12min or 1:02:03' 'replay ' replay "--from=$time" seven.trace
+done
+wrong_use '--to must lie after --from' 'replay ' replay --picture a --from 2s --to 2000ms seven.trace
+wrong_use '--from and --to choose what is drawn: give --picture or --page, too' 'replay ' replay --from 2s seven.trace
+wrong_use 'unknown option --from' 'week ' week --from 1s short.week
 wrong_use 'standard input can be read only once' 'replay ' replay - -
 wrong_use 'the bytes of a frame are missing: HEX, a FILE, or - for standard input' 'frame ' frame
 wrong_use 'a FILE is missing, or - for standard input' 'report ' report
 
 # ---- help and version
 sed -n 's/^#define LUMBIXET_VERSION_TEXT "\(.*\)"$/lumbixet \1/p' "$top/include/lumbixet.h" >version
-for words in --version 'replay --version' 'frame --version' 'report --version' 'week --version'; do
+for words in --version -V 'replay --version' 'week -V' 'frame --version' 'report --version' 'week --version' 'objects --version'; do
     # shellcheck disable=SC2086
     run ./lumbixet $words
     ends "$words" 0 version
 done
-for name in replay frame report week; do
+for name in replay frame report week objects; do
     run ./lumbixet "$name" --help
     holds "$name --help" "lumbixet $name [OPTION..]" out
     cp out help
     ends "$name --help" 0 help
 done
 run ./lumbixet --help
-for name in replay frame report week; do holds '--help' "  $name " out; done
+for name in replay frame report week objects; do holds '--help' "  $name " out; done
+cp out help
+for words in -h help; do
+    run ./lumbixet $words
+    ends "$words" 0 help
+done
+run ./lumbixet frame --help
+cp out help
+for words in 'help frame' 'frame -h' 'frame 1f -h'; do
+    # shellcheck disable=SC2086
+    run ./lumbixet $words
+    ends "$words" 0 help
+done
 
 # ---- colours and progress, on a terminal only
 red=$'\e[31m'
