@@ -1,0 +1,6 @@
+pub mod Laws
+pub mod Behind
+pub mod Answers
+pub mod Room
+pub mod Examples
+pub mod Only

@@ -1,0 +1,5 @@
+pub mod Calls
+pub mod Line
+pub mod Laid
+pub mod Logged
+pub mod Examples
