@@ -4,3 +4,4 @@ pub mod Answers
 pub mod Room
 pub mod Examples
 pub mod Only
+pub mod Exactly
