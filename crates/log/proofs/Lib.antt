@@ -1,0 +1,7 @@
+pub mod Laws
+pub mod Behind
+pub mod Answers
+pub mod Room
+pub mod Examples
+pub mod Only
+pub mod Exactly
