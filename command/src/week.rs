@@ -30,10 +30,14 @@ pub fn run(options: &Options, output: &mut Output) -> Result<Status, Failed> {
     let mut weeks = Weeks { each: Vec::new(), all: Sums::new() };
     let mut status = input::each(&options.operands, false, output, |name, input, _| {
         let mut own = Sums::new();
-        // behind a file that ended early there is no page over all
-        match weeks.all.early {
-            true => read(input, &mut [&mut own], shows)?,
-            false => read(input, &mut [&mut own, &mut weeks.all], shows)?,
+        // behind a file that ended early there is no page over all, and of one file it is its own
+        if weeks.all.early || options.operands.len() == 1 {
+            read(input, &mut [&mut own], shows)?;
+        } else {
+            read(input, &mut [&mut own, &mut weeks.all], shows)?;
+        }
+        if options.operands.len() == 1 {
+            weeks.all = own.clone();
         }
         if own.early || own.week.accepted().value == 0 && own.refused() {
             looks::hint(Command::Week, input, false);
