@@ -22,6 +22,7 @@ LISTS = {
     ("crates/pieces/specs/Handing.antt", "Handed"),
     ("crates/pieces/specs/Later.antt", "later"),
     ("crates/pieces/specs/Sessions.antt", "Session"),
+    ("crates/log_laws/specs/Lines.antt", "linesOf"),
     ("crates/play/specs/Reads.antt", "answered"),
     ("crates/page/specs/Pieces.antt", "turns"),
     ("crates/totals/specs/Sums.antt", "addedAll"),
