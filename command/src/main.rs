@@ -1,9 +1,10 @@
 //! The command `lumbixet`: replays hearings, reads frames and feedback reports, adds up a week's, and says what they hold. Every
-//! answer is that of a proved call of the archive (bindings/rust); what stands here reads, prints and draws.
+//! answer is that of a proved call of the archive (bindings/rust); what stands here reads, prints and draws. `objects` alone
+//! shows lines that a host printed.
 //!
 //! It has a `main` of its own, as C programs do: Rust's would put /dev/null in place of an output that the caller closed, and
 //! the log would be lost in silence. So it fails. A file that gets the number of a closed output is open for reading only, and
-//! the picture is opened when all lines are out.
+//! pictures and pages are opened when all lines are out.
 #![no_main]
 
 mod arguments;

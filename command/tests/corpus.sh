@@ -23,17 +23,29 @@ for input in "$inputs"/objects/*; do
     endures objects --words --picture fuzzed.svg --page fuzzed.html "$input"
     endures objects --json "$input"
 done
+
+# What was printed and drawn for an input is held together at the end.
+: >replays
 for input in "$inputs"/replay/*; do
+    name=hearing-$(basename "$input")
     endures replay --strict --words --page fuzzed.html "$input"
     endures replay --json --from 1ms --to 80ms --page fuzzed.html "$input"
-    endures replay --picture fuzzed.svg "$input"
+    endures replay --picture "$name.svg" "$input"
+    cp "$input" "$name.trace"
+    cp out "$name.lines"
     "$top/target/bin/replay" <"$input" | cmp -s - out || fault "a fuzzer's input: $input" 'other lines than the proved program'
-    python3 "$tests/count_again.py" "$input" out fuzzed.svg >again 2>&1 || fault "a fuzzer's input: $input" "$(cat again)"
+    echo "$name.trace $name.lines $name.svg" >>replays
 done
+: >weeks
 for input in "$inputs"/week/*; do
+    name=week-$(basename "$input")
     endures week --json --each "$input" "$inputs/week/first"
-    endures week --strict --words --picture fuzzed.svg --page fuzzed.html "$input"
-    endures week --picture fuzzed.svg --page fuzzed.html "$input"
+    endures week --strict --words --page fuzzed.html "$input"
+    endures week --picture "$name.svg" --page "$name.html" "$input"
+    cp out "$name.lines"
     "$top/target/bin/week" <"$input" | cmp -s - out || fault "a fuzzer's input: $input" 'another page than the proved program'
-    python3 "$tests/week_again.py" out fuzzed.svg fuzzed.html >again 2>&1 || fault "a fuzzer's input: $input" "$(cat again)"
+    echo "$name.lines $name.svg $name.html" >>weeks
 done
+tried=$((tried + 2))
+python3 "$tests/each.py" "$tests/count_again.py" <replays >again 2>&1 || fault "a fuzzer's hearings" "$(cat again)"
+python3 "$tests/each.py" "$tests/week_again.py" <weeks >again 2>&1 || fault "a fuzzer's weeks" "$(cat again)"
