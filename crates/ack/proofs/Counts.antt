@@ -20,7 +20,7 @@ use Rattle.frames.specs.declared.Tail.TheVariants.{Nothing, Counts}
 use Rattle.frames.specs.Ack.{type_of, counts_of}
 use Rattle.seen.specs.declared.Seen.{Seen}
 use Rattle.seen.specs.Numbers.{small}
-use Rattle.ack.specs.Ack.{number_of_ranges, frame, body, fits, ranges_kept}
+use Rattle.ack.specs.Ack.{number_of_ranges, frame, body, ranges_kept}
 use Rattle.ack.proofs.Ranges.{Begun}
 use Rattle.ack.proofs.Fitting.{bytes_next, bytes-none, bytes_of, frame-parts, tail-length, frame-length, kept-says, kept-is}
 

@@ -19,7 +19,7 @@ use Rattle.frames.proofs.Back.{type-small}
 use Rattle.seen.specs.declared.Seen.{Seen}
 use Rattle.ack.specs.Ack.{number_at, ranges, number_of_ranges, frame, body, fits, largest_where, ranges_kept}
 use Rattle.seen.proofs.Tests.{by-test}
-use Rattle.ack.proofs.Ranges.{Begun, Bottom, bottom, sizes, missing, top, size, low, missing-le, size-le, size-pos, size_none, run_length, first-top, down, down-none, down-some, few-ranges, fields, fields-zero, fields-some}
+use Rattle.ack.proofs.Ranges.{Begun, Bottom, bottom, sizes, missing, top, size, low, missing-le, size-le, size-pos, run_length, first-top, down, down-none, down-some, few-ranges, fields, fields-zero, fields-some}
 
 -- ---- bytes
 

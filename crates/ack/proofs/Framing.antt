@@ -1,11 +1,10 @@
 -- The frame up to its counts, put together: what comes before the range count, then what comes after it, and the range count last.
 -- Assumes nothing.
 use Prim.Native.Nat.{ℕ, suc, ◌+◌, ◌-◌, ◌≤◌, ◌<◌}
-use mathlib.Core.Path.{◌≡◌, refl, sym, ap, ◌∙◌, subst}
-use mathlib.Core.Bool.{Bool, true, false}
+use mathlib.Core.Path.{◌≡◌, sym, ap, ◌∙◌, subst}
 use mathlib.Core.Logic.{⊎_elim}
 use mathlib.Core.List.{List, [], ◌∷◌, ◌++◌, append_assoc, append-nil}
-use native.Mathlib.Nat.{add-zero, zero-add}
+use native.Mathlib.Nat.{zero-add}
 use native.Mathlib.Omega.{arith}
 use borrow.Author.Tests.{leb-true}
 use lib.ListN.{length, take, drop, length-append, length-take}
@@ -13,13 +12,12 @@ use lib.Seq.{take-take, take-append-le, drop-drop, drop_at, length-take-le}
 use Rattle.wire.specs.Bytes.{splice}
 use Rattle.wire.specs.Numbers.{limit, width_of, encode, encode_all, put_bytes}
 use Rattle.wire.proofs.Bytes.{splice-splice}
-use Rattle.wire.proofs.Lengths.{split, width-pos}
 use Rattle.wire.proofs.Writing.{length-encode, one-splice}
 use Rattle.frames.specs.declared.Tail.{Tail}
 use Rattle.frames.specs.declared.Tail.TheVariants.{Nothing, Counts}
-use Rattle.frames.specs.Ack.{type_of, range_numbers}
+use Rattle.frames.specs.Ack.{type_of}
 use Rattle.seen.specs.declared.Seen.{Seen}
-use Rattle.ack.specs.Ack.{ranges, number_of_ranges, frame, body, ranges_kept}
+use Rattle.ack.specs.Ack.{number_of_ranges, frame, body, ranges_kept}
 use Rattle.ack.proofs.Ranges.{Begun, size, low, few-ranges, fields, fields-zero}
 use Rattle.ack.proofs.Fitting.{bytes_next, bytes-none, bytes_below, base, first_rest, first-size, body-numbers, frame-length, tail-length, parts-length, kept-says, count_none, count-first}
 use Rattle.ack.proofs.Short.{one_width, two-width}

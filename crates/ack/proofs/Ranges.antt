@@ -16,7 +16,7 @@ use Rattle.window.proofs.Laws.{run-says, none-says}
 use Rattle.frames.specs.Ack.{gaps_from}
 use Rattle.seen.specs.declared.Seen.{Seen}
 use Rattle.seen.specs.Received.{floor_fits, numbers_obey, marks_consistent, seen_consistent}
-use Rattle.ack.specs.Ack.{number_at, ranges_below, ranges, number_of_ranges}
+use Rattle.ack.specs.Ack.{number_at, ranges_below, number_of_ranges}
 
 -- ---- a record in which something was received
 

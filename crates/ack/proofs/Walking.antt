@@ -1,15 +1,15 @@
 -- One walk over the ranges: each is stored as it is found. The ranges still to come, however many they will be, laid over the buffer give the whole,
 -- and those stored are the ones that fit. Assumes nothing.
 use Prim.Native.Nat.{ℕ, suc, ◌+◌, ◌-◌, ◌≤◌, ◌<◌}
-use mathlib.Core.Path.{◌≡◌, refl, sym, ap, ◌∙◌, subst}
+use mathlib.Core.Path.{◌≡◌, refl, sym, ap, ◌∙◌}
 use mathlib.Core.Bool.{Bool, true, false}
 use mathlib.Core.Logic.{◌⊎◌, ⊎_elim}
-use mathlib.Core.List.{List, [], ◌∷◌, ◌++◌, append_assoc}
+use mathlib.Core.List.{List, ◌∷◌, ◌++◌}
 use native.Mathlib.Nat.{add-zero, zero-add}
 use native.Mathlib.Omega.{arith}
 use borrow.Author.Tests.{leb-true, leb-false, ltb-true, ltb-false}
 use lib.Dec.{ltb}
-use lib.ListN.{length, length-append, take-append-drop}
+use lib.ListN.{length, take-append-drop}
 use Rattle.wire.specs.Bytes.{splice}
 use Rattle.wire.specs.Numbers.{limit, width_of, encode, encode_all}
 use Rattle.wire.proofs.Bytes.{splice-splice}
@@ -17,7 +17,7 @@ use Rattle.wire.proofs.Lengths.{split, width-pos}
 use Rattle.wire.proofs.Writing.{length-encode}
 use Rattle.frames.specs.declared.Tail.TheVariants.{Nothing}
 use Rattle.seen.specs.declared.Seen.{Seen}
-use Rattle.ack.specs.Ack.{number_of_ranges, frame, fits, ranges_kept}
+use Rattle.ack.specs.Ack.{frame, ranges_kept}
 use Rattle.window.specs.Window.{value_of, run_below}
 use Rattle.ack.proofs.Ranges.{Begun, first-is, missing, top, size, low, few-ranges, fields, fields-zero, fields-some}
 use Rattle.ack.proofs.Fitting.{width-grows, bytes-none, bytes_below, base, first-low, first_rest, frame-length, bytes-more, kept-says, Counted, count-first, count-all, counted-fits, some_more, step-sizes, no-more-fit, one-more-fits}

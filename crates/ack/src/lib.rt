@@ -1,6 +1,9 @@
 // The ACK frame of what was received: as many newest ranges of the window as fit the lent buffer, and its counts (02, No. 2).
 // Carries of "The receiver record" of document 01 the frame that write emits (RFC 9000 section 19.3).
 // The public function takes any record, any time and any bytes.
+
+#![tactic(auto)]
+
 ghost use Rattle.std.specs.Prelude.{◌≡◌, true, false, ◌+◌, ◌-◌, ◌^◌, ◌≤◌, ◌<◌, length};
 ghost use Rattle.wire.specs.Numbers.{limit, encode_all, all_small};
 ghost use Rattle.frames.specs.Ack.{type_of, counts_of};
@@ -31,7 +34,7 @@ pub struct Acked {
 impl Acked {
     // A refusal's number: no byte was written.
     fn refused(res: u64) -> Acked
-        ensures* { λ r. ⌜ r ≡ record { result = res; length = 0 } ⌝ }
+        ensures { result ≡ record { result = res; length = 0 } }
     {
         Acked {
             result: res,

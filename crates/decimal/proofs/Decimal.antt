@@ -1,8 +1,7 @@
 -- Decimal numbers: how many digits there are, and that the digits, read back, are the number.
 -- Assumes nothing.
-use Prim.Native.Nat.{ℕ, zero, suc, ◌+◌, ◌-◌, ◌*◌, ◌/◌, ◌%◌, ◌^◌, ◌≤◌, ◌<◌}
+use Prim.Native.Nat.{ℕ, zero, suc, ◌+◌, ◌*◌, ◌/◌, ◌%◌, ◌^◌, ◌≤◌, ◌<◌}
 use mathlib.Core.Path.{◌≡◌, refl, sym, ap, ◌∙◌}
-use mathlib.Core.Bool.{true, false}
 use mathlib.Core.List.{List, [], ◌∷◌}
 use native.Mathlib.Nat.{le_refl, lt_of_not-le, pow-suc, mul_assoc, one-le-pow, mod-eq_of_lt, zero-mul, zero-add, add-zero}
 use native.Mathlib.Decide.{dec_le}

@@ -1,6 +1,9 @@
 // Numbers in decimal: how many digits there are, and the digits themselves.
 // Carries what the printed lines of documents 01 and 02 say of numbers.
 // Every public function takes any number and any buffer, and refuses nothing.
+
+#![tactic(auto)]
+
 ghost use Rattle.std.specs.Prelude.{◌≡◌, [], ◌≤◌, length};
 ghost use Rattle.decimal.specs.Decimal.{places_of, last_digits};
 

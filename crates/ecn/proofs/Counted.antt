@@ -1,7 +1,7 @@
 -- What a packet leaves of the totals and what an ACK tells of them, by the mark and by the type: e is what the code knows of it.
 -- Assumes nothing.
 use Prim.Native.Nat.{ℕ}
-use mathlib.Core.Path.{◌≡◌, refl}
+use mathlib.Core.Path.{◌≡◌}
 use Rattle.frames.specs.declared.Tail.TheVariants.{Counts}
 use Rattle.ecn.specs.declared.Mark.{Mark}
 use Rattle.ecn.specs.declared.Mark.TheVariants.{None, Ect0, Ect1, Ce}

@@ -1,6 +1,9 @@
 // The ECN marks that packets carried (RFC 3168), the totals of accepted packets by mark, and the ACK that tells them.
 // Carries the marks and totals of request No. 2 of document 02 (RFC 9000 section 19.3.2).
 // Every public function takes any numbers.
+
+#![tactic(auto)]
+
 mod counts;
 pub mod given;
 

@@ -1,12 +1,12 @@
 -- The refusal table for entries, proved: each test of a definition is one side of its row.
 -- Assumes nothing.
-use Rattle.std.proofs.Common.{◌≡◌, ℕ, zero, suc, ◌+◌, ◌-◌, ◌*◌, ◌/◌, ◌%◌, ◌<◌, ◌≤◌, Bool, true, false, eqb, leb, List, length, drop, sym, refl, ap, ◌∙◌, subst, inl, inr, ⊎_elim, zero-le, zero-add, add-one, arith, length-drop, length-take, eqb-true, leb-false, leb-true}
+use Rattle.std.proofs.Common.{◌≡◌, ℕ, zero, suc, ◌+◌, ◌/◌, ◌%◌, ◌<◌, ◌≤◌, Bool, true, false, eqb, leb, List, length, sym, refl, ◌∙◌, subst, inl, inr, ⊎_elim, zero-le, zero-add, add-one, arith, length-drop, length-take, eqb-true, leb-false, leb-true}
 use borrow.Author.Tests.{eqb-false}
 use Rattle.wire.specs.Bytes.{pick}
 use Rattle.wire.proofs.Lengths.{split}
 use Rattle.entries.specs.Limits.{entry_size, most_given}
 use Rattle.entries.specs.Profiles.{record_size, number_of, Other}
-use Rattle.entries.specs.Entries.{group_of, behind, object_of, record_at, entry_at, entry_by, at_or_above, follows, records_good, entries_good, entries_fault}
+use Rattle.entries.specs.Entries.{group_of, behind, object_of, record_at, entry_at, entry_by, at_or_above, follows, entries_good, entries_fault}
 use Rattle.entries.specs.Refusals.{entry_refusal}
 use Rattle.entries.specs.Exactly.{Right, EndsBefore, There, EntryRows, EntryReads, Below, Obeys, EntriesJudged, FaultRows, FaultJudged}
 use Rattle.entries.specs.declared.Profile.{Profile}

@@ -1,6 +1,6 @@
 -- The last of good records are good: record i of them is a later record of the whole.
 -- Assumes nothing.
-use Rattle.std.proofs.Common.{◌≡◌, ℕ, ◌+◌, ◌-◌, ◌*◌, ◌/◌, ◌<◌, ◌≤◌, true, List, length, drop, ap, ◌∙◌, arith, length-drop, drop-drop}
+use Rattle.std.proofs.Common.{◌≡◌, ℕ, ◌+◌, ◌-◌, ◌*◌, ◌/◌, ◌<◌, true, List, length, drop, ap, ◌∙◌, arith, length-drop, drop-drop}
 use Rattle.entries.specs.Profiles.{record_size}
 use Rattle.entries.specs.Entries.{record_at, entry_of, entries_good, entries_fault}
 use Rattle.entries.specs.Fitting.{last_of}

@@ -2,7 +2,7 @@
 -- Assumes nothing.
 use Rattle.std.proofs.Common.{◌≡◌, ℕ, ◌<◌, ◌≤◌, Bool, true, false, eqb, sym, refl, ◌∙◌, arith, ne_eqb, eqb-true}
 use borrow.Author.Tests.{eqb-false}
-use Rattle.entries.specs.Profiles.{record_size, most_metrics, of_profile, number_of, Other, In}
+use Rattle.entries.specs.Profiles.{record_size, of_profile, number_of, Other, In}
 use Rattle.entries.specs.declared.Profile.{Profile}
 use Rattle.entries.specs.declared.Profile.TheVariants.{One, Two}
 

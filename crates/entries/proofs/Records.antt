@@ -1,6 +1,6 @@
 -- Records in a row: the rule from one record to the next, and what an entry that was accepted tells.
 -- Assumes nothing.
-use Rattle.std.proofs.Common.{◌≡◌, ℕ, suc, ◌+◌, ◌-◌, ◌*◌, ◌/◌, ◌%◌, ◌<◌, ◌≤◌, Bool, true, false, List, length, drop, sym, refl, ap, ◌∙◌, div-add-mod', zero-mul, div-mul-le_self, arith, drop-drop, eq-eqb, ne_eqb, le-leb}
+use Rattle.std.proofs.Common.{◌≡◌, ℕ, suc, ◌+◌, ◌-◌, ◌*◌, ◌/◌, ◌%◌, ◌<◌, ◌≤◌, Bool, true, List, length, drop, sym, ap, ◌∙◌, div-add-mod', zero-mul, div-mul-le_self, arith, drop-drop, eq-eqb, ne_eqb, le-leb}
 use native.Mathlib.Nat.{mul-mod_left}
 use borrow.Author.Tests.{lt-leb}
 use Rattle.wire.specs.Bytes.{pick}

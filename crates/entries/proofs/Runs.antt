@@ -1,7 +1,7 @@
 -- How many records in a row are good: the run from one record to the next as the code takes it, what it starts with, and that it ends
 -- behind the last record exactly where all are good.
 -- Assumes nothing.
-use Rattle.std.proofs.Common.{◌≡◌, ℕ, zero, suc, ◌+◌, ◌-◌, ◌*◌, ◌/◌, ◌<◌, ◌≤◌, min, Bool, true, false, eqb, ltb, leb, List, length, take, drop, sym, refl, ap, ◌∙◌, zero-le, zero-mul, add-one, arith, drop-drop, eq-eqb, ne_eqb, le-leb}
+use Rattle.std.proofs.Common.{◌≡◌, ℕ, zero, suc, ◌+◌, ◌-◌, ◌*◌, ◌/◌, ◌<◌, ◌≤◌, min, Bool, true, false, eqb, ltb, leb, List, length, take, drop, sym, refl, ap, ◌∙◌, zero-mul, add-one, arith, drop-drop, eq-eqb, ne_eqb, le-leb}
 use borrow.Author.Tests.{lt-leb}
 use Rattle.wire.specs.Bytes.{pick}
 use Rattle.wire.specs.Numbers.{limit}

@@ -1,7 +1,7 @@
 -- One step over records in a row, as the code takes it: the fields of the bytes behind a group, what they leave to the next record, and that
 -- this is the rule of the definitions, in either profile.
 -- Assumes nothing.
-use Rattle.std.proofs.Common.{◌≡◌, ℕ, zero, suc, ◌+◌, ◌-◌, ◌*◌, ◌%◌, ◌<◌, ◌≤◌, Bool, true, false, eqb, ltb, leb, List, length, take, drop, sym, refl, ap, ◌∙◌, zero-le, arith, length-drop, length-take-le, le-ltb, lt-ltb, eq-eqb, ne_eqb, eqb-true, le-leb, leb-true}
+use Rattle.std.proofs.Common.{◌≡◌, ℕ, zero, suc, ◌+◌, ◌-◌, ◌*◌, ◌%◌, ◌<◌, ◌≤◌, Bool, true, false, eqb, ltb, leb, List, length, take, drop, sym, refl, ap, ◌∙◌, zero-le, arith, length-drop, length-take-le, le-ltb, lt-ltb, ne_eqb, eqb-true, le-leb, leb-true}
 use borrow.Author.Tests.{lt-leb, eqb-false}
 use Rattle.wire.specs.Bytes.{pick, Octets}
 use Rattle.wire.specs.Numbers.{limit}
@@ -10,7 +10,6 @@ use Rattle.wire.proofs.Lengths.{split}
 use Rattle.entries.specs.Limits.{entry_size}
 use Rattle.entries.specs.Entries.{object_of, status_of, zeros_of, age_of, with_status, age_good, entry_from, entry_behind, at_or_above, follows_or}
 use Rattle.entries.specs.Steps.{parts_in, rest_good, inside, floor_of, next_of}
-use Rattle.entries.specs.declared.Status.{Status}
 use Rattle.entries.specs.declared.Status.TheVariants.{Received, Late, NotReceived, Partial}
 use Rattle.entries.specs.declared.Entry.{Entry}
 use Rattle.entries.specs.declared.Entry.TheVariants.{Record, Ends, Broken}

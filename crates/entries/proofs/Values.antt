@@ -1,6 +1,6 @@
 -- A record that is an entry is known by its values: its bytes are those of its group, its object number, its status above three zero bytes, and its age.
 -- Assumes nothing.
-use Rattle.std.proofs.Common.{◌≡◌, ℕ, zero, suc, ◌+◌, ◌-◌, ◌*◌, ◌<◌, ◌≤◌, Bool, true, false, eqb, leb, List, [], ◌++◌, length, take, drop, sym, refl, ap, ◌∙◌, ap₂, zero-mul, arith, length-drop, take-append-drop, drop_of_length-le, length-take, length-take-le, get_or-drop, drop-drop, eqb-true}
+use Rattle.std.proofs.Common.{◌≡◌, ℕ, zero, suc, ◌+◌, ◌*◌, ◌<◌, ◌≤◌, Bool, true, false, eqb, leb, List, [], ◌++◌, length, take, drop, sym, refl, ap, ◌∙◌, ap₂, zero-mul, arith, length-drop, take-append-drop, drop_of_length-le, length-take-le, get_or-drop, drop-drop, eqb-true}
 use Rattle.wire.specs.Bytes.{pick, be, Octets}
 use Rattle.wire.specs.Numbers.{limit}
 use Rattle.wire.proofs.Bytes.{be-one, octets-part}
@@ -11,7 +11,6 @@ use Rattle.entries.specs.Exactly.{Obeys}
 use Rattle.entries.specs.declared.Profile.{Profile}
 use Rattle.entries.specs.declared.Status.{Status}
 use Rattle.entries.specs.declared.Status.TheVariants.{Received, Late, NotReceived, Partial}
-use Rattle.entries.specs.declared.Entry.{Entry}
 use Rattle.entries.specs.declared.Entry.TheVariants.{Record, Ends, Broken}
 use Rattle.entries.proofs.Sizes.{step, whole-many}
 use Rattle.entries.proofs.Profiles.{sized}

@@ -1,5 +1,5 @@
 -- What the code asks of a record on its way over records in a row: the rule of Entries in other steps.
-use Rattle.std.specs.Prelude.{ℕ, suc, Bool, true, false, List, length, ◌==◌, nat_le}
+use Rattle.std.specs.Prelude.{ℕ, suc, Bool, false, List, length, ◌==◌, nat_le}
 use Rattle.wire.specs.Bytes.{pick}
 use Rattle.wire.specs.Numbers.{limit}
 use Rattle.entries.specs.Limits.{entry_size}

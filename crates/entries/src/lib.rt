@@ -1,6 +1,9 @@
 // Entry records, 16 bytes in profile 1 and 24 in profile 2: one by itself, records in a row, and how many of the last ones fit a room.
 // Carries "An entry" of document 01 and the records of No. 10, and what the report's reader and writer ask of records.
 // Every public function takes any bytes and any numbers, and refuses by the paper's table.
+
+#![tactic(auto)]
+
 ghost use Rattle.std.specs.Prelude.{◌≡◌, ◌/◌};
 ghost use Rattle.entries.specs.Profiles.{record_size};
 ghost use Rattle.entries.specs.Refusals.{entry_refusal};

@@ -1,6 +1,9 @@
 // Event records, the receiver's answers to them, and the lines that say so: all that the replay program does between input and output.
 // Carries "The replay program" of document 01.
 // Every public function takes any bytes, any receiver and any place; what reads and writes stands in the crate `play`.
+
+#![tactic(auto)]
+
 ghost use Rattle.std.specs.Prelude.{◌≡◌};
 ghost use Rattle.events.specs.Events.{opening};
 

@@ -8,10 +8,10 @@ use native.Mathlib.Omega.{arith}
 use mathlib.Core.Logic.{⊎_elim}
 use borrow.Author.Tests.{eqb-true, eqb-false, leb-true}
 use lib.Dec.{leb, eqb}
-use lib.ListN.{length, get_or, take, drop}
+use lib.ListN.{length, take, drop}
 use lib.Seq.{take_at}
 use Rattle.wire.specs.Bytes.{splice, Octets}
-use Rattle.wire.specs.Numbers.{limit, read_number}
+use Rattle.wire.specs.Numbers.{read_number}
 use Rattle.wire.specs.Standing.{Stand, none, one}
 use Rattle.wire.specs.declared.Number.TheVariants.{Value}
 use Rattle.wire.specs.Exactly.{OneOf}

@@ -1,7 +1,7 @@
 -- A frame read by what follows its type: each number that stands n bytes later is the same number, and so on through the chain of fields.
 -- Assumes nothing.
 use Prim.Native.Nat.{ℕ, zero, suc, ◌+◌, ◌-◌, ◌*◌, ◌/◌, ◌≤◌, ◌<◌}
-use mathlib.Core.Path.{◌≡◌, refl, sym, ap, subst, ◌∙◌}
+use mathlib.Core.Path.{◌≡◌, refl, sym, ap}
 use mathlib.Core.Bool.{Bool, true, false}
 use mathlib.Core.List.{List, [], ◌∷◌}
 use native.Mathlib.Nat.{add-zero}
@@ -18,17 +18,17 @@ use Rattle.wire.specs.declared.Fixed.TheVariants.{Value as FixedValue, Ends as F
 use Rattle.wire.specs.declared.Number.{Number}
 use Rattle.wire.specs.declared.Number.TheVariants.{Value, Ends}
 use Rattle.wire.proofs.Lengths.{split}
-use Rattle.frames.specs.Types.{frequency_type, counts_type, ack_types, among, is_ack}
-use Rattle.frames.specs.Frequency.{read_thresholds, read_frequency, read_frequency_as}
-use Rattle.frames.specs.Ack.{Ranges, before, ranges_from, read_tail, read_rest, AckRead, refused, after_rest, read_ranges, ack_fields_at, read_ack, read_ack_as}
+use Rattle.frames.specs.Types.{frequency_type, counts_type, among, is_ack}
+use Rattle.frames.specs.Frequency.{read_thresholds}
+use Rattle.frames.specs.Ack.{Ranges, before, ranges_from, read_tail, read_rest, AckRead, refused, after_rest, read_ranges, ack_fields_at}
 use Rattle.frames.specs.EachWay.{later_frequency, FrequencyAfterType, later, AckAfterType}
 use Rattle.frames.specs.declared.Frequency.{Frequency}
 use Rattle.frames.specs.declared.Walk.{Walk}
 use Rattle.frames.specs.declared.Walk.TheVariants.{Whole, Ends as WalkEnds, BelowZero}
 use Rattle.frames.specs.declared.Ending.{Ending}
 use Rattle.frames.specs.declared.Ending.TheVariants.{Whole as Ended, Ends as Stops, BelowZero as Low}
-use Rattle.frames.specs.declared.Ack.TheVariants.{Ends as Cut, OtherType}
-use Rattle.frames.proofs.Steps.{field_both, pick-both}
+use Rattle.frames.specs.declared.Ack.TheVariants.{Ends as Cut}
+use Rattle.frames.proofs.Steps.{pick-both}
 
 -- ---- a number
 

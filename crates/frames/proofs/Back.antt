@@ -9,11 +9,10 @@ use native.Mathlib.Omega.{arith}
 use lib.Dec.{eqb, lit≤}
 use lib.ListN.{length, drop, get_or}
 use Rattle.wire.specs.Bytes.{splice}
-use Rattle.wire.specs.Numbers.{limit, width_of, encode, encode_all, read_number, put_answer, put_bytes}
+use Rattle.wire.specs.Numbers.{limit, width_of, encode, encode_all, read_number}
 use Rattle.wire.specs.Exactly.{Small}
 use Rattle.wire.specs.Standing.{Stand, none, one}
 use Rattle.wire.specs.declared.Number.TheVariants.{Value}
-use Rattle.wire.specs.declared.Put.TheVariants.{Done}
 use Rattle.wire.proofs.Reading.{next}
 use Rattle.wire.proofs.Small.{small-append}
 use Rattle.wire.proofs.RoundTrip.{read-encoded}

@@ -9,10 +9,9 @@ use borrow.Author.Tests.{le-leb, eqb-false}
 use lib.ListN.{length, replicate, length-replicate}
 use Rattle.wire.specs.Exactly.{OneOf}
 use Rattle.wire.proofs.Lengths.{split}
-use Rattle.frames.specs.Types.{ack_types}
 use Rattle.frames.specs.Ack.{AckRead, read_ack, check_ack, after_check}
 use Rattle.frames.specs.Refusals.{ack_refusal, checked_refusal}
-use Rattle.frames.specs.Exactly.{After, asked, count, NotBelow, ChecksAck, AckChecks}
+use Rattle.frames.specs.Exactly.{After, count, AckChecks}
 use Rattle.frames.specs.declared.Checked.{Checked}
 use Rattle.frames.specs.declared.Checked.TheVariants.{Frame, Ends, OtherType, BelowZero}
 use Rattle.frames.proofs.Check.{check-then-room}

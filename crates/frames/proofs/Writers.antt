@@ -1,14 +1,12 @@
 -- The refusal table for the frames' writers, proved: a frame's numbers are written by wire, and its type is never too large.
 -- Assumes nothing.
-use Prim.Native.Nat.{ℕ, ◌+◌, ◌≤◌, ◌<◌}
+use Prim.Native.Nat.{◌+◌}
 use mathlib.Core.Path.{◌≡◌}
 use mathlib.Core.Logic.{inl, inr, ⊎_elim}
-use mathlib.Core.List.{List, [], ◌∷◌}
 use native.Mathlib.Nat.{zero-add}
 use lib.Dec.{lit≤}
 use lib.ListN.{length}
 use Rattle.wire.specs.Numbers.{first_from, form, encode, encode_all}
-use Rattle.wire.specs.Exactly.{Writes, Places}
 use Rattle.wire.proofs.Exactly.{numbers-write}
 use Rattle.frames.specs.Frequency.{frequency}
 use Rattle.frames.specs.Immediate.{immediate}

@@ -1,6 +1,9 @@
 // The three frames: ACK_FREQUENCY and IMMEDIATE_ACK, read and written, and ACK, read.
 // Carries "Three frames" of document 01 (004; RFC 9000 section 19.3), and ACK with counts (02, No. 2).
 // Every public function takes any bytes and any numbers, and refuses by the paper's table.
+
+#![tactic(auto)]
+
 ghost use Rattle.std.specs.Prelude.{◌≡◌};
 ghost use Rattle.frames.specs.Refusals.{frequency_refusal, immediate_refusal, ack_refusal, checked_refusal};
 

@@ -2,4 +2,7 @@
 // The crates host_codec, host_report and host_tracker have the others, and the Makefile joins the four into one file.
 // Document 01 leaves sockets, encryption, loss recovery and rate control outside: the host has them.
 // Where a lower crate answers an enum, a host gets the paper's number and the case's values, and 0 for what the case has not.
+
+#![tactic(auto)]
+
 mod calls;

@@ -136,8 +136,7 @@ pub fn ack_out(answer: Ack) -> AckOut
 }
 
 // Reads an ACK_FREQUENCY frame.
-#[unsafe(no_mangle)]
-pub extern "C" fn lumbixet_read_frequency(bytes: &[u8]) -> FrequencyOut
+pub fn lumbixet_read_frequency(bytes: &[u8]) -> FrequencyOut
     ensures { result ≡ frequency_out (read_frequency bytes.now) }
 {
     let answer = frames::read_frequency(bytes);
@@ -145,8 +144,7 @@ pub extern "C" fn lumbixet_read_frequency(bytes: &[u8]) -> FrequencyOut
 }
 
 // Reads an IMMEDIATE_ACK frame.
-#[unsafe(no_mangle)]
-pub extern "C" fn lumbixet_read_immediate(bytes: &[u8]) -> ImmediateOut
+pub fn lumbixet_read_immediate(bytes: &[u8]) -> ImmediateOut
     ensures { result ≡ immediate_out (read_immediate bytes.now) }
 {
     let answer = frames::read_immediate(bytes);
@@ -154,8 +152,7 @@ pub extern "C" fn lumbixet_read_immediate(bytes: &[u8]) -> ImmediateOut
 }
 
 // Reads an ACK frame and writes smallest and largest of each range to the lent slice.
-#[unsafe(no_mangle)]
-pub extern "C" fn lumbixet_read_ack(bytes: &[u8], ranges: &mut [u64]) -> AckOut
+pub fn lumbixet_read_ack(bytes: &[u8], ranges: &mut [u64]) -> AckOut
     ensures { (result ≡ ack_out (read_ack bytes.now ranges.old).answer) × (ranges.new ≡ (read_ack bytes.now ranges.old).slice) }
 {
     let answer = frames::read_ack(bytes, ranges);
@@ -163,8 +160,7 @@ pub extern "C" fn lumbixet_read_ack(bytes: &[u8], ranges: &mut [u64]) -> AckOut
 }
 
 // Writes an ACK_FREQUENCY frame at the start of the buffer.
-#[unsafe(no_mangle)]
-pub extern "C" fn lumbixet_put_frequency(
+pub fn lumbixet_put_frequency(
     buffer: &mut [u8],
     sequence: u64,
     threshold: u64,
@@ -178,8 +174,7 @@ pub extern "C" fn lumbixet_put_frequency(
 }
 
 // Writes an IMMEDIATE_ACK frame at the start of the buffer.
-#[unsafe(no_mangle)]
-pub extern "C" fn lumbixet_put_immediate(buffer: &mut [u8]) -> PutOut
+pub fn lumbixet_put_immediate(buffer: &mut [u8]) -> PutOut
     ensures { (result ≡ put_out (put_answer buffer.old 0 immediate)) × (buffer.new ≡ put_bytes buffer.old 0 immediate) }
 {
     let answer = frames::put_immediate(buffer);

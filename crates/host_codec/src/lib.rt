@@ -1,9 +1,16 @@
-// For the archive of crate host: numbers and frames, read and written, under their C names.
+// For the archive of crate host: numbers and frames, read and written. The crates host_codec_c and host_codec_as export them.
 // Where a lower crate answers an enum, a host gets the paper's number and the case's values, and 0 for what the case has not.
+
+#![tactic(auto)]
+
 mod codec;
 mod numbers;
 
-pub use codec::{ack_out, frequency_out};
+pub use codec::{
+    ack_out, frequency_out, lumbixet_put_frequency, lumbixet_put_immediate, lumbixet_read_ack,
+    lumbixet_read_frequency, lumbixet_read_immediate,
+};
+pub use numbers::{lumbixet_put_number, lumbixet_read_number};
 
 // A number that was read, the place after it, and 1 where its form was the shortest.
 #[repr(C)]

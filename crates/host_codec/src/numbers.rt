@@ -47,8 +47,7 @@ pub(crate) fn put_out(answer: Put) -> PutOut
 }
 
 // Reads the number that starts at a place.
-#[unsafe(no_mangle)]
-pub extern "C" fn lumbixet_read_number(bytes: &[u8], at: usize) -> NumberOut
+pub fn lumbixet_read_number(bytes: &[u8], at: usize) -> NumberOut
     ensures { result ≡ number_out (read_number bytes.now at) }
 {
     let answer = wire::read_number(bytes, at);
@@ -56,8 +55,7 @@ pub extern "C" fn lumbixet_read_number(bytes: &[u8], at: usize) -> NumberOut
 }
 
 // Writes a number at a place in its shortest form.
-#[unsafe(no_mangle)]
-pub extern "C" fn lumbixet_put_number(buffer: &mut [u8], at: usize, value: u64) -> PutOut
+pub fn lumbixet_put_number(buffer: &mut [u8], at: usize, value: u64) -> PutOut
     ensures { (result ≡ put_out (put_answer buffer.old at (value ∷ []))) × (buffer.new ≡ put_bytes buffer.old at (value ∷ [])) }
 {
     let answer = wire::put_number(buffer, at, value);

@@ -1,5 +1,8 @@
 // For the archive of crate host: frames whose type the host's stack has read already, under their C names.
 // They stand in an archive crate of their own: beside the whole readers both would be compiled slower.
+
+#![tactic(auto)]
+
 ghost use Rattle.std.specs.Prelude.{◌≡◌};
 ghost use Rattle.frames.specs.Frequency.{read_frequency_as};
 ghost use Rattle.frames.specs.Ack.{read_ack_as};

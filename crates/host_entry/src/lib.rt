@@ -1,6 +1,9 @@
 // For the archive of crate host: one entry of a report under its C name. It is apart from the whole reader, so that what judges an entry
 // goes in line in either.
 // Where a lower crate answers an enum, a host gets the paper's number and the case's values, and 0 for what the case has not.
+
+#![tactic(auto)]
+
 ghost use Rattle.std.specs.Prelude.{◌≡◌};
 ghost use Rattle.entries.specs.Entries.{entry_by};
 ghost use Rattle.host_entry.specs.Entry.{status_out, no_entry, entry_out};

@@ -1,5 +1,8 @@
 // The archive's call for the newest lost object, as include/lumbixet_report.h declares it.
 // A host gets the paper's number and the case's values, and 0 for what the case has not.
+
+#![tactic(auto)]
+
 ghost use Rattle.std.specs.Prelude.{◌≡◌};
 ghost use Rattle.newest.specs.Newest.{newest_by};
 ghost use Rattle.host_newest.specs.Newest.{newest_out};

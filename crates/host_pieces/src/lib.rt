@@ -1,5 +1,8 @@
 // The archive's calls for a report that arrives over several reads, as include/lumbixet_pieces.h declares them.
 // A host lends the record, and it is updated there.
+
+#![tactic(auto)]
+
 ghost use Rattle.std.specs.Prelude.{◌≡◌, length};
 ghost use Rattle.pieces.specs.Calls.{open_refusal, open_after, take_answer, take_after, take_bytes, end_answer, end_after};
 

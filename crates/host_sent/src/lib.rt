@@ -1,5 +1,8 @@
 // For the archive of crate host: the sending side's loss list under its C names.
 // A host lends the record, which is large, and it is updated there.
+
+#![tactic(auto)]
+
 ghost use Rattle.std.specs.Prelude.{◌≡◌, length};
 ghost use Rattle.sent.specs.Calls.{opened, send_answer, send_after};
 ghost use Rattle.sent.specs.Heard.{hear, IsHeard};

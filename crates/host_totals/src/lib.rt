@@ -1,5 +1,8 @@
 // For the archive of crate host: the week's totals under their C names.
 // Where a lower crate answers an enum, a host gets the paper's number and the case's values, and 0 for what the case has not.
+
+#![tactic(auto)]
+
 mod week;
 
 // What the writer of a page answers: the page's length.

@@ -1,2 +1,5 @@
 // For the archive of crate host: the tracker's calls under their C names.
+
+#![tactic(auto)]
+
 mod tracked;

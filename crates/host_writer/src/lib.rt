@@ -1,6 +1,9 @@
 // For the archive of crate host: the writer of reports under its C name. It is apart from the readers, so that what judges an entry
 // goes in line in either.
 // Where a lower crate answers an enum, a host gets the paper's number and the case's values, and 0 for what the case has not.
+
+#![tactic(auto)]
+
 ghost use Rattle.std.specs.Prelude.{◌≡◌, length};
 ghost use Rattle.report.specs.Writer.{answer_by, bytes_by};
 ghost use Rattle.host_writer.specs.Writer.{written_out};

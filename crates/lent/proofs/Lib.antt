@@ -1,2 +1,1 @@
-pub mod Machine
 pub mod Only

@@ -1,6 +1,9 @@
 // The calls of which a host lends the record: it is updated there (02, No. 14).
 // Each copies the record out, calls the method by value and stores the next record, so it answers what that call answers, refusals included.
 // They stand in an archive crate of their own: beside the exports by value both would be compiled slower.
+
+#![tactic(auto)]
+
 ghost use Rattle.std.specs.Prelude.{◌≡◌};
 ghost use Rattle.ecn.specs.Given.{mark_of, kind_of};
 ghost use Rattle.receiver.specs.Given.{micros};

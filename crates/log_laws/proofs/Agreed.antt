@@ -19,10 +19,10 @@ use Rattle.receiver.specs.Packet.{handed_back, packet_refusal, packet_after, pac
 use Rattle.receiver.specs.Calls.{opened, usual, open_refusal, open_call, timer_refusal, timer_after, timer_call, immediate_refusal, immediate_after, immediate_call, heard, agreed_after, threshold_verdict, threshold_call}
 use Rattle.receiver.specs.Confirm.{confirm_refusal, confirm_after, confirm_call}
 use Rattle.receiver.specs.Write.{after_write, write_refusal}
-use Rattle.log.specs.declared.Call.{Call}
-use Rattle.log.specs.declared.Call.TheVariants.{Open, Packet, Timer, Threshold, Immediate, Confirm, Write}
-use Rattle.log.specs.Calls.{heard_of, noting, noting_opening, acting, wrote_of, step}
-use Rattle.log.specs.Line.{now_of}
+use Rattle.call_log.specs.declared.Call.{Call}
+use Rattle.call_log.specs.declared.Call.TheVariants.{Open, Packet, Timer, Threshold, Immediate, Confirm, Write}
+use Rattle.call_log.specs.Calls.{heard_of, noting, noting_opening, acting, wrote_of, step}
+use Rattle.call_log.specs.Line.{now_of}
 use Rattle.log_laws.specs.Lines.{Entry, Line, next, after, lines_of, opened_by, framed_by, said_by, said}
 use Rattle.log_laws.specs.Truth.{Agrees}
 

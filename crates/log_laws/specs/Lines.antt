@@ -7,11 +7,11 @@ use Rattle.receiver.specs.declared.Verdict.{Verdict}
 use Rattle.receiver.specs.declared.Verdict.TheVariants.{Accepted, Stale, Refused}
 use Rattle.receiver.specs.Record.{micros_of}
 use Rattle.receiver.specs.Calls.{usual}
-use Rattle.log.specs.declared.Call.{Call}
-use Rattle.log.specs.declared.Call.TheVariants.{Open, Packet, Timer, Threshold, Immediate, Confirm, Write}
-use Rattle.log.specs.declared.Now.{Now}
-use Rattle.log.specs.Calls.{step, frame_of}
-use Rattle.log.specs.Line.{now_of, line_text}
+use Rattle.call_log.specs.declared.Call.{Call}
+use Rattle.call_log.specs.declared.Call.TheVariants.{Open, Packet, Timer, Threshold, Immediate, Confirm, Write}
+use Rattle.call_log.specs.declared.Now.{Now}
+use Rattle.call_log.specs.Calls.{step, frame_of}
+use Rattle.call_log.specs.Line.{now_of, line_text}
 
 -- ---- calls and their lines
 

@@ -7,9 +7,9 @@
 use Rattle.std.specs.Prelude.{ℕ, ◌≡◌, List, [], ◌∷◌, ◌++◌}
 use Rattle.receiver.specs.declared.Receiver.{Receiver}
 use Rattle.receiver.specs.declared.Verdict.TheVariants.{Accepted, Stale, Refused}
-use Rattle.log.specs.declared.Call.{Call}
-use Rattle.log.specs.declared.Call.TheVariants.{Open, Packet, Timer, Threshold, Immediate, Confirm, Write}
-use Rattle.log.specs.Line.{now_of, line_of}
+use Rattle.call_log.specs.declared.Call.{Call}
+use Rattle.call_log.specs.declared.Call.TheVariants.{Open, Packet, Timer, Threshold, Immediate, Confirm, Write}
+use Rattle.call_log.specs.Line.{now_of, line_of}
 use Rattle.log_laws.specs.Lines.{Entry, Line, next, after, line_on, lines_of, text_of, agreed_in, said}
 
 -- the call opens no receiver

@@ -122,7 +122,7 @@ module _ (cs : Calls) (s : List ℕ) (is : State → Bool) where
 
 -- a frame that is checked, and what follows from what holds of it
 checked-so : (s : List ℕ) (P Q : ℕ → List ℕ → Type 0) (k : Checked) → (P (largest_in k) (ranges_in s k) → Q (largest_in k) (ranges_in s k)) → Checks s k P → Checks s k Q
-checked-so s P Q (Frame largest delay at count used tail) f p = f p
+checked-so s P Q (Frame top delay at count used tail) f p = f p
 checked-so s P Q Ends f p = p
 checked-so s P Q OtherType f p = p
 checked-so s P Q BelowZero f p = p

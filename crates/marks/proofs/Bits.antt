@@ -2,18 +2,18 @@
 -- Assumes nothing.
 use Prim.Native.Nat.{ℕ, zero, suc, ◌+◌, ◌-◌, ◌*◌, ◌/◌, ◌%◌, ◌^◌, ◌≤◌, ◌<◌, min, max}
 use mathlib.Core.Path.{◌≡◌, refl, sym, ap, ap₂, ◌∙◌, subst}
-use mathlib.Core.Bool.{Bool, true, false, not, ◌&&◌, ◌||◌}
+use mathlib.Core.Bool.{Bool, false, not, ◌&&◌, ◌||◌}
 use native.Mathlib.Nat.{min-le_left, mod-lt}
 use native.Mathlib.Omega.{arith}
-use borrow.Author.Tests.{eq-eqb, ne_eqb, eqb-true, le-leb, lt-leb, lt-ltb, le-ltb}
+use borrow.Author.Tests.{le-leb, lt-leb, lt-ltb, le-ltb}
 use lib.Bits.{bit_and, bit_or, and_step, or_step, and_shr, or_shr}
 use lib.Count.{count_trailing_zeros}
 use native.Mathlib.Decide.{dec_le}
-use lib.Dec.{leb, ltb, eqb}
+use lib.Dec.{ltb, eqb}
 use lib.Pow.{shr_lt, pow_pos}
 use Rattle.window.specs.Words.{bit}
 use Rattle.window.specs.Window.{is_set}
-use Rattle.window.proofs.Bits.{bit-zero, bit-add, bit-lt, bit-above, bit-cat, bit-low, bit_up, bit_not}
+use Rattle.window.proofs.Bits.{bit-add, bit-lt, bit-above, bit-cat, bit-low, bit_up, bit_not}
 use Rattle.window.proofs.Zeros.{below-zeros, at-zeros, zeros-in}
 use Rattle.marks.specs.Marks.{first_in, between}
 use Rattle.marks.proofs.Listing.{first-hit, first-skip, first-none}

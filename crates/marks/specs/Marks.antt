@@ -1,5 +1,5 @@
 -- Marks of numbers in a ring of sixteen words, and the numbers of which something holds, rising.
-use Rattle.std.specs.Prelude.{ℕ, zero, suc, ◌+◌, ◌-◌, ◌*◌, ◌/◌, ◌%◌, Bool, true, false, ◌&&◌, ◌||◌, List, [], ◌∷◌, leb, ltb, get_or, set}
+use Rattle.std.specs.Prelude.{ℕ, zero, suc, ◌+◌, ◌-◌, ◌*◌, ◌/◌, ◌%◌, Bool, true, false, ◌&&◌, List, [], ◌∷◌, leb, ltb, get_or, set}
 use Rattle.wire.specs.Bytes.{pick}
 use Rattle.window.specs.Window.{is_set, with_bit}
 

@@ -1,5 +1,8 @@
 // Marks of numbers in a ring of sixteen words: set by ranges, found by trailing zeros.
 // The loss list of request No. 9 of document 02 keeps its numbers so, and a send moves none of them.
+
+#![tactic(auto)]
+
 ghost use Rattle.std.specs.Prelude.{◌≡◌, ◌+◌, ◌-◌, ◌≤◌, ◌<◌, length, take};
 ghost use Rattle.wire.specs.Bytes.{splice};
 ghost use Rattle.window.specs.Window.{is_set};

@@ -1,6 +1,6 @@
 -- Beside the full reading: of a report that it accepts all records stand, and elsewhere the rows of both tables decide.
 -- Assumes nothing.
-use Prim.Native.Nat.{ℕ, suc, ◌+◌, ◌*◌, ◌≤◌, ◌<◌}
+use Prim.Native.Nat.{ℕ, suc, ◌+◌, ◌*◌, ◌<◌}
 use mathlib.Core.Path.{◌≡◌, refl, sym, ap, ◌∙◌, subst}
 use mathlib.Core.Logic.{inl, inr, ⊎_elim}
 use mathlib.Core.List.{List, [], ◌∷◌}
@@ -22,8 +22,7 @@ use Rattle.newest.specs.Search.{newest_in}
 use Rattle.newest.specs.Newest.{newest_lost}
 use Rattle.newest.specs.Refusals.{newest_refusal}
 use Rattle.newest.specs.Exactly.{Stands, BadRead, Last}
-use Rattle.newest.specs.Against.{WhereTwelve, Against, AgainstFull}
-use Rattle.newest.specs.declared.Newest.{Newest}
+use Rattle.newest.specs.Against.{WhereTwelve, AgainstFull}
 use Rattle.newest.specs.declared.Newest.TheVariants.{Refused}
 use Rattle.newest.proofs.Outcome.{all-stand, bad-refused, good-last, twelve-or}
 use Rattle.newest.proofs.Exactly.{to_inside, to-longer, to-fault, to-few, to-remain, at-end}
@@ -92,6 +91,7 @@ module _ (p : Profile) (s : List ℕ) where
           let b = (report-reads p s).thirteen.0 e in
           is 13 e (to-remain p s (record { ns = b.ns; at = b.at; header = b.header; remain = b.remain }))
       go (inr (inr (inr (inr (inr (inr (inl e))))))) = is 15 e (to-longer p s ((report-reads p s).fifteen.0 e))
+      go (inr (inr (inr (inr (inr (inr (inr e))))))) = elim e [ ]
 
   where-twelve : BadEntry p s → WhereTwelve p s
   where-twelve b = record {

@@ -17,7 +17,6 @@ use Rattle.report.specs.declared.Announced.{Announced}
 use Rattle.report.proofs.Following.{End, inside, longer, fault, header, numbers-end}
 use Rattle.newest.specs.Search.{newest_in}
 use Rattle.newest.specs.Newest.{after_numbers, newest_lost}
-use Rattle.newest.specs.declared.Newest.{Newest}
 use Rattle.newest.specs.declared.Newest.TheVariants.{Refused}
 
 refusal-of : (f : Announced) (n : ℕ) → f ≡ announced (Stopped n) → f.refusal ≡ n

@@ -26,7 +26,6 @@ use Rattle.newest.specs.Search.{newest_in}
 use Rattle.newest.specs.Newest.{after_numbers, newest_lost, newest_by}
 use Rattle.newest.specs.Refusals.{newest_refusal}
 use Rattle.newest.specs.Exactly.{BadRead, Remain, Exact, NewestRows, NewestReads, NewestReadsBy}
-use Rattle.newest.specs.declared.Newest.{Newest}
 use Rattle.newest.specs.declared.Newest.TheVariants.{Refused}
 use Rattle.newest.proofs.Outcome.{bad-refused, twelve-or}
 
@@ -52,6 +51,7 @@ module _ (p : Profile) where
       go (inl e) = absurd (z (sym f.fault ∙ e))
       go (inr (inl e)) = let q : n ≡ 10 = sym f.fault ∙ e in subst (Row (table s)) (sym q) (subst (λ (m : ℕ). Faulty p m s) q f)
       go (inr (inr (inl e))) = let q : n ≡ 11 = sym f.fault ∙ e in subst (Row (table s)) (sym q) (subst (λ (m : ℕ). Faulty p m s) q f)
+      go (inr (inr (inr e))) = elim e [ ]
   in_row s (Whole ns at) (header h) = go (leb (at + record_size p * count_of ns) (length s)) (eqb (at + record_size p * count_of ns) (length s)) refl refl
     where
       searched-row : at + record_size p * count_of ns ≡ length s → Row (table s) (newest_refusal (newest_in p (part_of p s ns at) (count_of ns)))
@@ -140,3 +140,4 @@ newest-reads-by profile s =
     none (inr (inr (inr (inr (inl e))))) = eqb-false 18 12 refl e
     none (inr (inr (inr (inr (inr (inl e)))))) = eqb-false 18 13 refl e
     none (inr (inr (inr (inr (inr (inr (inl e))))))) = eqb-false 18 15 refl e
+    none (inr (inr (inr (inr (inr (inr (inr e))))))) = elim e [ ]

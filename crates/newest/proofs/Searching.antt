@@ -2,18 +2,14 @@
 -- Assumes nothing.
 use Prim.Native.Nat.{ℕ, zero, suc, ◌-◌, ◌≤◌, ◌<◌}
 use mathlib.Core.Path.{◌≡◌, refl, sym, ap, ◌∙◌}
-use mathlib.Core.Bool.{Bool, true, false}
-use mathlib.Core.Logic.{◌⊎◌, ⊎_elim}
+use mathlib.Core.Bool.{true, false}
 use mathlib.Core.List.{List}
 use native.Mathlib.Omega.{arith}
-use borrow.Author.Tests.{eqb-false}
-use denote.Enum.Declared.{tag_of}
 use Rattle.entries.specs.Entries.{entry_at, at_or_above}
 use Rattle.entries.specs.declared.Profile.{Profile}
 use Rattle.entries.specs.declared.Status.{Status}
 use Rattle.entries.specs.declared.Entry.{Entry}
 use Rattle.entries.specs.declared.Entry.TheVariants.{Record, Ends, Broken, OtherProfile}
-use Rattle.entries.specs.contracts.Entry.{the_type}
 use Rattle.newest.specs.Search.{is_lost, judged, searched}
 use Rattle.newest.specs.declared.Newest.{Newest}
 use Rattle.newest.specs.declared.Newest.TheVariants.{Found, Nothing, Refused}
@@ -28,8 +24,9 @@ unfolding searched
 none_left p s left top next h = let e : left ≡ 0 = omega arith in rw e
 
 -- an answer that is no record
-no_record : (e : Entry) (top next : ℕ) (f : ℕ → ℕ → Newest) → (tag_of the_type e ≡ 1) ⊎ ((tag_of the_type e ≡ 2) ⊎ (tag_of the_type e ≡ 3)) → judged top next e f ≡ Refused 12
-no_record (Record group object status age) top next f t = ⊎_elim (λ z. absurd (eqb-false 0 1 refl z)) (⊎_elim (λ z. absurd (eqb-false 0 2 refl z)) (λ z. absurd (eqb-false 0 3 refl z))) t
+no_record : (e : Entry) (top next : ℕ) (f : ℕ → ℕ → Newest) → ((group object : ℕ) (status : Status) (age : ℕ) → e ≡ Record group object status age → ⊥)
+    → judged top next e f ≡ Refused 12
+no_record (Record group object status age) top next f t = absurd (t group object status age refl)
 no_record Ends top next f t = refl
 no_record Broken top next f t = refl
 no_record OtherProfile top next f t = refl
@@ -40,7 +37,7 @@ module _ (p : Profile) (s : List ℕ) (left top next : ℕ) (R : Newest) (e : En
   here : judged top next e (searched p s (left - 1)) ≡ R
   here = ap (λ (x : Entry). judged top next x (searched p s (left - 1))) g ∙ sym (turn p s left top next h) ∙ inv
 
-  pub stop-broken : (tag_of the_type e ≡ 1) ⊎ ((tag_of the_type e ≡ 2) ⊎ (tag_of the_type e ≡ 3)) → Refused 12 ≡ R
+  pub stop-broken : ((group object : ℕ) (status : Status) (age : ℕ) → e ≡ Record group object status age → ⊥) → Refused 12 ≡ R
   stop-broken t = sym (no_record e top next (searched p s (left - 1)) t) ∙ here
 
   module _ (group object : ℕ) (status : Status) (age : ℕ) (t : e ≡ Record group object status age) where

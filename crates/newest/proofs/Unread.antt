@@ -13,9 +13,8 @@ use Rattle.wire.specs.Standing.{StandShortest}
 use Rattle.wire.proofs.Lengths.{split}
 use Rattle.wire.proofs.Standing.{short-stands, encoded-short, stand-small, short-long, short-bytes}
 use Rattle.entries.specs.Profiles.{record_size}
-use Rattle.entries.specs.Entries.{record_at, entry_of, entry_at, at_or_above}
+use Rattle.entries.specs.Entries.{entry_of, entry_at, at_or_above}
 use Rattle.entries.specs.declared.Profile.{Profile}
-use Rattle.entries.specs.declared.Status.{Status}
 use Rattle.entries.specs.declared.Entry.{Entry}
 use Rattle.entries.specs.declared.Entry.TheVariants.{Record, Ends, Broken, OtherProfile}
 use Rattle.entries.proofs.Sizes.{further}
@@ -23,10 +22,10 @@ use Rattle.report.specs.Header.{count_of}
 use Rattle.report.specs.Reader.{Whole, part_of}
 use Rattle.report.specs.Exactly.{Headed}
 use Rattle.report.proofs.Following.{headed-whole}
-use Rattle.newest.specs.Search.{is_lost, judged, searched, newest_in}
-use Rattle.newest.specs.Newest.{after_numbers, newest_lost}
+use Rattle.newest.specs.Search.{is_lost, judged, searched}
+use Rattle.newest.specs.Newest.{after_numbers}
 use Rattle.newest.specs.Exactly.{Lost}
-use Rattle.newest.specs.Against.{Agree, Unread}
+use Rattle.newest.specs.Against.{Unread}
 use Rattle.newest.specs.declared.Newest.{Newest}
 use Rattle.newest.specs.declared.Newest.TheVariants.{Found, Refused}
 use Rattle.newest.proofs.Exactly.{by}

@@ -1,6 +1,9 @@
 // The newest lost object of a report: the last record that is marked not received.
 // Carries No. 11 of document 02: a search from the last record down, which stops at the first one found and reads none before it.
 // It takes any bytes, and refuses by the paper's table; what it does not notice stands in docs/clerk/EXCEPTIONS.md.
+
+#![tactic(auto)]
+
 ghost use Rattle.std.specs.Prelude.{◌≡◌};
 ghost use Rattle.newest.specs.Refusals.{newest_refusal};
 

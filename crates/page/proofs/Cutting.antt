@@ -9,21 +9,20 @@ use native.Mathlib.Decide.{dec_le}
 use native.Mathlib.Omega.{arith}
 use borrow.Author.Tests.{le-leb, lt-leb, eq-eqb, ne_eqb}
 use lib.Dec.{leb}
-use lib.ListN.{length, take, drop, length-append, length-take, length-drop}
+use lib.ListN.{length, drop, length-append, length-take, length-drop}
 use lib.Seq.{drop-drop, take-append-le, drop-append-le}
 use Rattle.wire.specs.Bytes.{pick}
 use Rattle.totals.specs.declared.Totals.{Totals}
 use Rattle.totals.specs.declared.Standing.{Standing}
-use Rattle.totals.specs.declared.Taken.{Taken}
-use Rattle.totals.specs.Totals.{longest, too_long, totals_of}
-use Rattle.totals.specs.Adding.{brings, with, added}
-use Rattle.totals.specs.Files.{length_size, length_at, report_at, behind, Cut, Reports, EndsEarly, before, cut_from, cut, start, with_long, nothing, step_of, taken_from, taken}
-use Rattle.page.specs.Page.{lines, early, page, page_of, printed}
+use Rattle.totals.specs.Totals.{longest}
+use Rattle.totals.specs.Adding.{added}
+use Rattle.totals.specs.Files.{length_size, length_at, report_at, behind, Cut, Reports, EndsEarly, before, cut_from, cut, start, with_long, nothing, step_of, taken_from}
+use Rattle.page.specs.Page.{lines, early, page_of, printed}
 use Rattle.totals.specs.Sums.{added_all}
 use Rattle.page.specs.Pieces.{Place, turn, turns, opened, LeftShort, file, PageInPieces}
 use Rattle.totals.proofs.Summing.{brings-long, adds-up}
 use Rattle.page.proofs.Printing.{printed-skipping, printed-left, printed-whole}
-use Rattle.totals.proofs.Stepping.{step_skip, step-ends, step-long, step_part, step-whole, step-within, step-empty, taken-stop, taken_more}
+use Rattle.totals.proofs.Stepping.{step_skip, step-ends, step-long, step_part, step-whole, step-empty, taken-stop, taken_more}
 
 -- ---- the reports of a file
 

@@ -1,6 +1,9 @@
 // The page of a week's totals: a line for each sum, or the refusal of a file that ends early.
 // Carries of document 02, No. 13, what is printed; the program `week` prints it.
 // The public function takes any totals and any bytes.
+
+#![tactic(auto)]
+
 ghost use Rattle.std.specs.Prelude.{◌≡◌, ◌+◌, ◌≤◌, ◌<◌, length};
 ghost use Rattle.wire.specs.Bytes.{splice};
 ghost use Rattle.decimal.specs.Decimal.{decimal};

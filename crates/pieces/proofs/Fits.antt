@@ -202,9 +202,9 @@ ready-fit p (Records ns n last above held) e =
     let d = both (leb n (count_of ns)) (place_fit p (count_of ns) n last above && carried_fit p n (length held)) c.1 in
     let f = both (place_fit p (count_of ns) n last above) (carried_fit p n (length held)) d.1 in
     (carried-less p n (length held) f.1, rows_few p ns n (eqb-true (first_fault p ns) 0 b.1) (eqb-true (length ns) (wanted_of p ns) c.0) (leb-true n (count_of ns) d.0))
-ready-fit p (Counting ns n) e = tt
+ready-fit p (Counting _ n) e = tt
 ready-fit p (Refused n) e = tt
-ready-fit p (Accepted ns) e = tt
+ready-fit p (Accepted _) e = tt
 
 pub sits-consistent : (w : List ℕ) → consistent w ≡ true → Sits (profile_in w) (stand_at w)
 sits-consistent w e =

@@ -27,6 +27,14 @@ use Rattle.pieces.proofs.Laying.{zeros, padded-at}
 use Rattle.pieces.proofs.Stages.{header-whole}
 use Rattle.pieces.proofs.Back.{numbers-back}
 
+-- ---- the places of a metric's type and of its value
+
+abbrev pub kind_at : List ℕ → ℕ → ℕ
+kind_at places i = get_or places (at_type i) 0
+
+abbrev pub value_at : List ℕ → ℕ → ℕ
+value_at places i = get_or places (at_value i) 0
+
 -- ---- as many metrics were laid as i, each as f has it, and all places behind are 0
 
 pub record Shown (f : ℕ → ℕ) (i : ℕ) (xs : List ℕ) : Type 0 where

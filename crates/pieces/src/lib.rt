@@ -1,6 +1,9 @@
 // Reports that arrive over several reads: a reader that takes successive parts and carries at most one unfinished field or record.
 // Carries request No. 6 of document 02. The caller lends the record, and it is updated there.
 // Every public function takes any bytes and any record, and refuses by the paper's table.
+
+#![tactic(auto)]
+
 mod calls;
 mod fields;
 mod fitness;

@@ -38,7 +38,9 @@ joined kept (p ∷ ps) =
 -- less than a record is kept
 short : (kept : List ℕ) (ps : List Piece) → length kept < 24 → length (left kept ps) < 24
 short kept [] h = h
-short kept (p ∷ ps) h = short _ ps (rw (rest (kept ++ p.bytes)) (omega arith))
+short kept (p ∷ ps) h =
+    let s = kept ++ p.bytes in
+    short (drop (whole (length s)) s) ps (rw (rest s) (omega arith))
 
 -- whole records are answered
 even : (kept : List ℕ) (ps : List Piece) → length (input (answered kept ps)) % 24 ≡ 0
@@ -52,7 +54,9 @@ even kept (p ∷ ps) =
 
 uncut : (kept : List ℕ) (ps : List Piece) → Roomy (answered kept ps) → Uncut (answered kept ps)
 uncut kept [] reads.none = none
-uncut kept (p ∷ ps) (reads.more h r) = more h (whole-records (kept ++ p.bytes)) (uncut _ ps r)
+uncut kept (p ∷ ps) (reads.more h r) =
+    let s = kept ++ p.bytes in
+    more h (whole-records s) (uncut (drop (whole (length s)) s) ps r)
 
 pub at_once : AtOnce
 at_once ps r l =
@@ -69,7 +73,9 @@ at_once ps r l =
 
 uncut-last : (kept : List ℕ) (ps : List Piece) (p : Piece) → Roomy (answered kept ps ++ (p ∷ [])) → Uncut (answered kept ps ++ (p ∷ []))
 uncut-last kept [] p (reads.more h reads.none) = last h
-uncut-last kept (q ∷ ps) p (reads.more h r) = more h (whole-records (kept ++ q.bytes)) (uncut-last _ ps p r)
+uncut-last kept (q ∷ ps) p (reads.more h r) =
+    let s = kept ++ q.bytes in
+    more h (whole-records s) (uncut-last (drop (whole (length s)) s) ps p r)
 
 input_last : (ps : List Piece) (p : Piece) → input (ps ++ (p ∷ [])) ≡ input ps ++ p.bytes
 input_last [] p = append-nil p.bytes

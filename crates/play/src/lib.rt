@@ -1,10 +1,13 @@
 // Reading event records and printing their lines: the two ends of the replay program.
 // Carries "Standard input holds event records" of document 01; the records' answers and lines are the crate `events`.
+
+#![tactic(auto)]
+
 ghost use Rattle.std.specs.Prelude.{◌≡◌, ◌-◌, ◌≤◌, ◌<◌, length, take, drop};
 ghost use Rattle.play.specs.Reads.{ready};
 
-use libc::{STDERR_FILENO, STDIN_FILENO, STDOUT_FILENO};
 use receiver::Receiver;
+use std::io::Read;
 
 // How many bytes are read at most at a time: 2,730 records.
 const PIECE: usize = 65520;
@@ -50,8 +53,20 @@ fn ready(filled: usize, ended: bool) -> usize
     filled - filled % RECORD
 }
 
+// A line on standard error. Where it cannot be written either, nobody is left to tell.
+fn complain<P: Eprint>(rt: &P, line: &str) {
+    let _ = rt.eprintln(line);
+}
+
 // Answers what is ready, prints the lines, and keeps the rest.
-fn answer(place: Place, input: &mut [u8], filled: usize, ended: bool, output: &mut [u8]) -> Place
+fn answer<P: Print + Eprint>(
+    rt: &P,
+    place: Place,
+    input: &mut [u8],
+    filled: usize,
+    ended: bool,
+    output: &mut [u8],
+) -> Place
     requires { filled ≤ length input.old }
     ensures { result.kept < 24 }
 {
@@ -59,11 +74,11 @@ fn answer(place: Place, input: &mut [u8], filled: usize, ended: bool, output: &m
     let end = ready(filled, ended);
     let played = events::piece(&input[..end], before, place.index, output);
     let length = played.length;
-    let printed = io::write_all(STDOUT_FILENO, &output[..length]);
+    let printed = rt.write_all(&output[..length]).is_ok();
     if !printed {
-        io::write_all(
-            STDERR_FILENO,
-            b"replay: standard output cannot be written, so lines are missing\n",
+        complain(
+            rt,
+            "replay: standard output cannot be written, so lines are missing",
         );
     }
     keep(input, end, filled);
@@ -78,16 +93,21 @@ fn answer(place: Place, input: &mut [u8], filled: usize, ended: bool, output: &m
 }
 
 // Reads what has come, behind what was kept, and answers it.
-fn turn(place: Place, input: &mut [u8], output: &mut [u8]) -> Place
+fn turn<R: Read, P: Print + Eprint>(
+    reader: &mut R,
+    rt: &P,
+    place: Place,
+    input: &mut [u8],
+    output: &mut [u8],
+) -> Place
     requires { (place.kept < 24) × (24 ≤ length input.old) }
     ensures { result.kept < 24 }
 {
     let kept = place.kept;
-    let got = libc::read(STDIN_FILENO, &mut input[kept..]);
-    if got < 0 {
-        io::write_all(
-            STDERR_FILENO,
-            b"replay: standard input cannot be read, so the lines end early\n",
+    let Ok(count) = reader.read(&mut input[kept..]) else {
+        complain(
+            rt,
+            "replay: standard input cannot be read, so the lines end early",
         );
         let receiver = place.receiver;
         return Place {
@@ -96,14 +116,13 @@ fn turn(place: Place, input: &mut [u8], output: &mut [u8]) -> Place
             kept,
             more: false,
         };
-    }
-    let count = io::count(got, &input[kept..]);
-    answer(place, input, kept + count, count == 0, output)
+    };
+    answer(rt, place, input, kept + count, count == 0, output)
 }
 
-// Plays standard input to its end.
+// Plays what the reader gives to its end: the lines go to standard output.
 // A proved loop has to end, and nothing says that an input does: it counts its turns down from a number that no run uses up.
-pub fn play() {
+pub fn play<R: Read, P: Print + Eprint>(reader: &mut R, rt: &P) {
     let mut input = [0u8; PIECE];
     let mut output = [0u8; ROOM];
     let mut place = Place {
@@ -114,7 +133,7 @@ pub fn play() {
     };
     let mut turns = u64::MAX;
     while 0 < turns && place.more {
-        place = turn(place, &mut input, &mut output);
+        place = turn(reader, rt, place, &mut input, &mut output);
         turns -= 1;
     }
 }

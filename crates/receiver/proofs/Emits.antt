@@ -1,18 +1,18 @@
 -- What write emits is read back, its refusals are the table's rows, and what it leaves: what `seen` says of its frame, for an accepted write.
 -- Assumes nothing.
-use Prim.Native.Nat.{ℕ, zero, suc, ◌≤◌}
-use mathlib.Core.Path.{◌≡◌, refl, sym, ap, ◌∙◌}
-use mathlib.Core.Bool.{true, false}
+use Prim.Native.Nat.{ℕ, zero, suc}
+use mathlib.Core.Path.{◌≡◌, refl, sym, ◌∙◌}
+use mathlib.Core.Bool.{true}
 use mathlib.Core.List.{List}
 use native.Mathlib.Omega.{arith}
 use borrow.Author.Tests.{le-leb, lt-leb, le-ltb, lt-ltb}
 use lib.Dec.{eqb}
-use lib.ListN.{length, drop}
+use lib.ListN.{length}
 use Rattle.wire.proofs.Lengths.{split}
 use Rattle.seen.specs.declared.Micros.{Micros}
 use Rattle.seen.specs.Numbers.{small}
 use Rattle.seen.specs.Received.{seen_consistent, reported}
-use Rattle.ack.specs.Ack.{ack_delay, frame, ack_refusal, ack_frame, acked, laid, ack_answer, ack_bytes}
+use Rattle.ack.specs.Ack.{ack_delay, frame, ack_refusal, acked, laid, ack_answer, ack_bytes}
 use Rattle.seen.proofs.Tests.{by-test}
 use Rattle.ack.proofs.Emits.{frame-fits, laid-long, laid-stays, ack-read-back}
 use Rattle.receiver.specs.declared.Receiver.{Receiver}

@@ -1,7 +1,7 @@
 -- The refusal table for the calls on the record, proved: each test of a definition is the row's.
 -- Assumes nothing.
-use Prim.Native.Nat.{ℕ, zero, suc, ◌-◌, ◌≤◌, ◌<◌}
-use mathlib.Core.Path.{◌≡◌, refl, sym, ap, ◌∙◌}
+use Prim.Native.Nat.{ℕ, zero, suc, ◌≤◌}
+use mathlib.Core.Path.{◌≡◌, refl, ◌∙◌}
 use mathlib.Core.Bool.{Bool, true, false, not, ◌&&◌}
 use mathlib.Core.List.{List, [], ◌∷◌}
 use native.Mathlib.Omega.{arith}
@@ -9,7 +9,6 @@ use borrow.Author.Tests.{le-leb, lt-leb, lt-ltb, le-ltb}
 use lib.Dec.{leb, ltb, eqb}
 use Rattle.wire.specs.Bytes.{pick}
 use Rattle.wire.proofs.Lengths.{split}
-use Rattle.seen.specs.declared.Micros.{Micros}
 use Rattle.seen.specs.declared.Seen.{Seen}
 use Rattle.receiver.specs.declared.Receiver.{Receiver}
 use Rattle.receiver.specs.declared.Verdict.{Verdict}
@@ -22,7 +21,7 @@ use Rattle.receiver.specs.Record.{limits_rule, delay_rule, rest_consistent, cons
 use Rattle.receiver.specs.Packet.{packet_refusal, packet_after, packet_call, handed_back}
 use Rattle.receiver.specs.Confirm.{confirm_refusal, confirm_after, confirm_call}
 use Rattle.receiver.specs.Calls.{opened, usual, open_refusal, open_call, timer_refusal, timer_after, timer_call, immediate_refusal, immediate_after, immediate_call, agreed_after, threshold_verdict, threshold_call, heard}
-use Rattle.receiver.specs.Exactly.{Row, row, first, packet_rows, Exactly, Unchanged, verdict_of}
+use Rattle.receiver.specs.Exactly.{Row, row, first, Exactly, Unchanged, verdict_of}
 
 result-of : (k : ℕ) (old new : Receiver) → (handed_back k old new).result ≡ k
 result-of zero old new = refl

@@ -85,7 +85,7 @@ impl Receiver {
 
     // The usual opening beside a refusal number.
     fn refused_opening(res: u64) -> Answer
-        ensures* { λ r. ⌜ r ≡ record { result = res; next = usual } ⌝ }
+        ensures { result ≡ record { result = res; next = usual } }
     {
         let next = Receiver::opened(1, 1, Millis(25), Micros(1000));
         Answer { result: res, next }

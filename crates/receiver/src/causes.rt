@@ -58,6 +58,7 @@ fn order(
 
 impl Receiver {
     // Cause 4: this packet has CE, and no threshold frame was accepted yet (02, No. 1), or the packet accepted before it had not, or there was none.
+    #[tactic(auto, unfolding(crate::specs::Packet::congestion))]
     fn congestion(self, ce: bool) -> bool
         ensures { result ≡ congestion self ce }
     {

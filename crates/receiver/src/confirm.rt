@@ -7,6 +7,7 @@ use seen::numbers;
 
 impl Receiver {
     // The ACK with largest k is confirmed: numbers up to k are reported no more, L itself excepted.
+    #[tactic(auto, unfolding(crate::specs::Confirm::confirm_call, crate::specs::Confirm::confirm_refusal))]
     pub fn confirm(self, k: u64) -> Answer
         ensures { result ≡ confirm_call self k }
     {

@@ -30,6 +30,7 @@ impl Limits {
     }
 
     // Whether a delay is below 16,384,000 microseconds and not below the minimum.
+    #[tactic(auto, unfolding(crate::specs::Record::delay_rule))]
     pub(crate) fn allow(self, delay: Micros) -> bool
         ensures { result ≡ delay_rule self delay }
     {

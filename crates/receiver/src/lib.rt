@@ -1,6 +1,9 @@
 // The receiver record: what was received, what must still be acknowledged, and when that is due.
 // Carries "The receiver record" of document 01 (RFC 9000 section 13.2, ACK Frequency version 14).
 // Each call takes the record by value and hands the next one back; a refused call hands it back as it came.
+
+#![tactic(auto)]
+
 ghost use Rattle.std.specs.Prelude.{◌≡◌};
 
 use ecn::Totals;
@@ -92,7 +95,7 @@ pub struct Answer {
 impl Answer {
     // A refusal's number and the record as it came.
     fn refused(res: u64, kept: Receiver) -> Answer
-        ensures* { λ r. ⌜ r ≡ record { result = res; next = kept } ⌝ }
+        ensures { result ≡ record { result = res; next = kept } }
     {
         Answer {
             result: res,

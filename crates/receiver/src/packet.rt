@@ -12,6 +12,7 @@ use window::Window;
 
 impl Pending {
     // With one ack-eliciting packet more; at 2^62 the count stays.
+    #[tactic(auto, unfolding(crate::specs::Packet::pending_after))]
     fn with(self, number: u64, time: Micros) -> Pending
         requires { (number ≤ limit) × (self.count ≤ limit + 1) }
         ensures { result ≡ pending_after self number time }

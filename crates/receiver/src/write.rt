@@ -9,7 +9,7 @@ use seen::Micros;
 impl Wrote {
     // A refusal's number and the record as it came.
     fn refused(res: u64, kept: Receiver) -> Wrote
-        ensures* { λ r. ⌜ r ≡ record { result = res; length = 0; next = kept } ⌝ }
+        ensures { result ≡ record { result = res; length = 0; next = kept } }
     {
         Wrote {
             result: res,

@@ -1,4 +1,7 @@
 // The replay program of document 01: event records on standard input, a line for each on standard output.
-fn main() {
-    play::play();
+
+#![tactic(auto)]
+
+fn main(rt: HostRuntime) {
+    play::play(&mut rt.stdin(), &rt);
 }

@@ -2,6 +2,9 @@
 // 1 cannot come, for an opening is consistent and each call keeps it so; 4 is for openings and threshold frames, of which it has none;
 // 9 cannot, for the smallest ACK frame takes at most 20 of the 1,200 bytes; the others are for reports and readers.
 // tools/make-replay-input makes the input, section by section.
-fn main() {
-    play::play();
+
+#![tactic(auto)]
+
+fn main(rt: HostRuntime) {
+    play::play(&mut rt.stdin(), &rt);
 }

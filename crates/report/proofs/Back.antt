@@ -8,7 +8,7 @@ use native.Mathlib.Omega.{arith}
 use borrow.Author.Tests.{le-leb, le-ltb, eq-eqb, ne_eqb}
 use lib.ListN.{length, get_or, take, drop, length-append}
 use lib.Seq.{take_all, take_at, drop_at, drop-append_seam}
-use Rattle.wire.specs.Numbers.{limit, encode_all}
+use Rattle.wire.specs.Numbers.{encode_all}
 use Rattle.wire.specs.Standing.{StandShortest}
 use Rattle.wire.proofs.Small.{all_small_lem}
 use Rattle.wire.proofs.Standing.{encoded-short}

@@ -48,6 +48,7 @@ report-reads-by profile s =
     none (inr (inr (inr (inr (inl e))))) = eqb-false 18 12 refl e
     none (inr (inr (inr (inr (inr (inl e)))))) = eqb-false 18 13 refl e
     none (inr (inr (inr (inr (inr (inr (inl e))))))) = eqb-false 18 15 refl e
+    none (inr (inr (inr (inr (inr (inr (inr x))))))) = elim x [ ]
 
 module _ (profile : ℕ) (h : Header) (entries : List ℕ) (maximum room : ℕ) where
   abbrev answer : Profile → Written
@@ -72,6 +73,7 @@ report-writes-by profile h entries maximum room =
     none (inr (inr (inr (inl e)))) = eqb-false 18 10 refl e
     none (inr (inr (inr (inr (inl e))))) = eqb-false 18 11 refl e
     none (inr (inr (inr (inr (inr (inl e)))))) = eqb-false 18 12 refl e
+    none (inr (inr (inr (inr (inr (inr x)))))) = elim x [ ]
 
 pub report-unchanged : ReportUnchanged
 report-unchanged profile h entries maximum xs f = go (which profile)

@@ -55,6 +55,7 @@ module _ (p : Profile) where
       go (inl e) = absurd (z (sym f.fault ∙ e))
       go (inr (inl e)) = let q : n ≡ 10 = sym f.fault ∙ e in subst (Row (table s)) (sym q) (subst (λ (m : ℕ). Faulty p m s) q f)
       go (inr (inr (inl e))) = let q : n ≡ 11 = sym f.fault ∙ e in subst (Row (table s)) (sym q) (subst (λ (m : ℕ). Faulty p m s) q f)
+      go (inr (inr (inr x))) = elim x [ ]
   in_row s (Whole ns at) (header h) = go (leb end (length s)) (entries_good p (part_of p s ns at)) (eqb end (length s)) refl refl refl
     where
       end : ℕ

@@ -1,12 +1,10 @@
 -- The maximum of the writer: what was kept with less room or a lower one is the end of what is kept now, and what is written holds no more than the maximum.
 -- Assumes nothing.
-use Prim.Native.Nat.{ℕ, ◌-◌, ◌/◌, ◌≤◌}
-use mathlib.Core.Path.{◌≡◌, sym, ap, ◌∙◌}
+use Prim.Native.Nat.{ℕ, ◌-◌}
+use mathlib.Core.Path.{ap, ◌∙◌}
 use native.Mathlib.Omega.{arith}
 use lib.ListN.{length}
 use Rattle.wire.specs.Numbers.{encode_all}
-use Rattle.entries.specs.Profiles.{record_size}
-use Rattle.entries.specs.declared.Profile.{Profile}
 use Rattle.entries.specs.Exactly.{KeptStill}
 use Rattle.entries.proofs.Largest.{records-stay}
 use Rattle.report.specs.Header.{numbers_of}

@@ -37,6 +37,7 @@ module _ (p : Profile) where
       go more (inl e) = rw e more
       go more (inr (inl e)) = inr (rw e)
       go more (inr (inr (inl e))) = absurd (omega (arith, ((place-judged p ns v).eleven.0 e).place))
+      go more (inr (inr (inr x))) = elim x [ ]
 
   -- ---- one metric: its type is judged, its value is not
 

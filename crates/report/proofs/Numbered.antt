@@ -3,7 +3,7 @@
 use Prim.Native.Nat.{ℕ}
 use mathlib.Core.Path.{◌≡◌, sym, ap, ◌∙◌}
 use native.Mathlib.Omega.{arith}
-use Rattle.entries.specs.Profiles.{number_of, Other, of_profile}
+use Rattle.entries.specs.Profiles.{of_profile}
 use Rattle.entries.specs.declared.Profile.{Profile}
 use Rattle.entries.proofs.Profiles.{Which, known, other as unknown, which, of-known, of_other}
 use Rattle.report.specs.declared.Asked.TheVariants.{For, NoProfile}

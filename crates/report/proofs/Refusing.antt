@@ -129,6 +129,7 @@ module _ (p : Profile) (h : Header) (entries : List ℕ) (maximum room : ℕ) wh
       records ok (inl e) = fits (record { front = ok; records = (fault-judged p entries).accepted.0 e })
       records ok (inr (inl e)) = subst (Row table) (sym (to-broken 10 (eqb-false 10 0 refl) ok e)) (inr (inr (ok, (fault-judged p entries).ten.0 e)))
       records ok (inr (inr (inl e))) = subst (Row table) (sym (to-broken 12 (eqb-false 12 0 refl) ok e)) (ok, (fault-judged p entries).twelve.0 e)
+      records ok (inr (inr (inr x3))) = elim x3 [ ]
 
       front : HeaderPasses p h → Row table refusal
       front ok =

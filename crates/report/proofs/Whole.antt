@@ -17,7 +17,7 @@ use Rattle.wire.specs.declared.Number.TheVariants.{Value, Ends}
 use Rattle.entries.specs.Profiles.{record_size}
 use Rattle.entries.specs.declared.Profile.{Profile}
 use Rattle.report.specs.Limits.{most_numbers}
-use Rattle.report.specs.Header.{judge_field, wanted_of, count_of, header_of, empty_header}
+use Rattle.report.specs.Header.{judge_field, wanted_of, count_of, header_of}
 use Rattle.entries.specs.Entries.{entries_good}
 use Rattle.report.specs.Reader.{Reading, Whole, Stopped, numbers_from, read_numbers, part_of, judge_entries, fault_behind, report_reading, report_of, read_report, entries_in, entries_of, reading_of}
 use Rattle.report.specs.declared.NumbersRead.{NumbersRead}

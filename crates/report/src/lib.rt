@@ -1,6 +1,9 @@
 // The feedback report: a header of wire numbers, then entries, records of 16 bytes each in profile 1 and of 24 in profile 2.
 // Carries "The feedback report" of document 01 and the profiles of No. 10: the whole reader, its companion for the entries, one entry, the writer.
 // Every public function takes any bytes and any header, and refuses by the paper's table.
+
+#![tactic(auto)]
+
 ghost use Rattle.std.specs.Prelude.{◌≡◌};
 ghost use Rattle.report.specs.Refusals.{written_refusal};
 

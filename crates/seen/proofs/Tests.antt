@@ -1,17 +1,16 @@
 -- What a test of a call's answer says of the definition that the answer equals.
 -- Assumes nothing.
 use mathlib.Core.Path.{◌≡◌, refl, sym, ◌∙◌}
-use mathlib.Core.Bool.{Bool, true, false, not}
-use borrow.Author.Tests.{not-true, not-false}
+use mathlib.Core.Bool.{Bool, true, false}
 
 module _ {b s : Bool} (e : b ≡ s) where
   -- `if !answer` was taken
-  pub failed : not b ≡ true → s ≡ false
-  failed t = sym e ∙ not-true b t
+  pub failed : b ≡ false → s ≡ false
+  failed t = sym e ∙ t
 
   -- and was not
-  pub held : not b ≡ false → s ≡ true
-  held t = sym e ∙ not-false b t
+  pub held : b ≡ true → s ≡ true
+  held t = sym e ∙ t
 
   -- `if answer` was taken, and was not
   pub told : b ≡ true → s ≡ true

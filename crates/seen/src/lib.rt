@@ -1,6 +1,9 @@
 // What was received: the largest number L, when it arrived, which numbers of the window were received, and the floor below which none is reported.
 // Carries of "The receiver record" of document 01 the window, refusals 6 and 7 and the missing numbers, and of document 02 the floor of No. 12 (RFC 9000 section 13.2.4).
 // Every public function takes any record, any number and any time.
+
+#![tactic(auto)]
+
 use window::Window;
 
 mod consistent;

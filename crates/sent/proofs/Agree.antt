@@ -1,12 +1,12 @@
 -- Which records are consistent: the marks as they are judged by words, and by numbers.
 -- Assumes nothing.
-use Prim.Native.Nat.{ℕ, zero, suc, ◌+◌, ◌-◌, ◌*◌, ◌/◌, ◌%◌, ◌^◌, ◌≤◌, ◌<◌}
-use mathlib.Core.Path.{◌≡◌, refl, sym, ap, ap₂, ◌∙◌, subst}
+use Prim.Native.Nat.{ℕ, zero, suc, ◌+◌, ◌-◌, ◌/◌, ◌%◌, ◌^◌, ◌≤◌, ◌<◌}
+use mathlib.Core.Path.{◌≡◌, refl, sym, ap, ap₂, ◌∙◌}
 use mathlib.Core.Bool.{Bool, true, false, not, ◌&&◌, ◌||◌}
 use mathlib.Core.List.{List}
 use native.Mathlib.Decide.{dec_le}
 use native.Mathlib.Omega.{arith}
-use borrow.Author.Tests.{eqb-true, eqb-false, eq-eqb, le-leb, lt-leb, lt-ltb, le-ltb, not-true, not-false}
+use borrow.Author.Tests.{eqb-true, eqb-false, le-leb, lt-leb, lt-ltb, le-ltb, not-false}
 use lib.Bits.{bit_and, bit_or, and_lt, or_lt}
 use lib.Dec.{leb, ltb, eqb}
 use lib.ListN.{get_or, replicate, get_or-replicate}
@@ -15,10 +15,9 @@ use Rattle.window.specs.Words.{bit}
 use Rattle.window.specs.Window.{is_set}
 use Rattle.window.proofs.Bits.{bit-lt, bit-above, same_bits}
 use Rattle.marks.specs.Marks.{mark, number_at, none_in, between, with_range}
-use Rattle.sent.specs.Record.{DueMarks, most_held, next_of, end_of, floor_of, is_due, wrong_at, wrong_bit, word_wrong}
+use Rattle.sent.specs.Record.{DueMarks, next_of, end_of, is_due, wrong_at, wrong_bit, word_wrong}
 use Rattle.marks.proofs.Listing.{none-says, none_is, same_test}
 use Rattle.marks.proofs.Bits.{set-and, set-or, set-not, set-zero}
-use Rattle.marks.proofs.Ring.{between-same}
 use Rattle.marks.proofs.Ranges.{range-marks}
 
 -- ---- one word

@@ -1,24 +1,24 @@
 -- Hearing a frame: what the words' marks say of each number is what the request says of its state, and so are the lists and the record.
 -- Assumes nothing.
-use Prim.Native.Nat.{ℕ, zero, suc, ◌+◌, ◌-◌, ◌/◌, ◌%◌, ◌^◌, ◌≤◌, ◌<◌}
+use Prim.Native.Nat.{ℕ, ◌+◌, ◌-◌, ◌≤◌, ◌<◌}
 use mathlib.Core.Path.{◌≡◌, refl, sym, ap, ap₂, ◌∙◌, subst}
 use mathlib.Core.Bool.{Bool, true, false, not, ◌&&◌, ◌||◌}
-use mathlib.Core.List.{List, []}
+use mathlib.Core.List.{List}
 use native.Mathlib.Omega.{arith}
 use borrow.Author.Tests.{le-leb, lt-leb, lt-ltb, le-ltb}
-use lib.Dec.{leb, ltb}
+use lib.Dec.{leb}
 use lib.ListN.{length, take}
 use lib.Seq.{take_all}
 use Rattle.wire.specs.Bytes.{pick, splice}
 use Rattle.wire.proofs.Bytes.{splice-none}
 use Rattle.frames.specs.Ack.{ranges_from, check_ack}
 use Rattle.frames.specs.declared.Checked.{Checked}
-use Rattle.frames.specs.declared.Checked.TheVariants.{Frame, Ends, OtherType, BelowZero}
+use Rattle.frames.specs.declared.Checked.TheVariants.{Frame}
 use Rattle.frames.specs.declared.Tail.{Tail}
 use Rattle.marks.specs.Marks.{mark, listed}
 use Rattle.marks.proofs.Listing.{listed_same}
-use Rattle.sent.specs.Record.{State, Outstanding, Acknowledged, Lost, is_acknowledged, is_lost, next_of, acked_before, lost_before, end_of, floor_of, acked_at, lost_at, state_of, state_at, is_due, DueMarks, record_of, consistent}
-use Rattle.sent.specs.Heard.{within, end_after, heard_state, state_after, newly, newly_in, Hearing, refused_as, accepted_as, hear_ranges, hear_checked, hear, heard_answer, IsHeard, FrameMarks, AckedAnew, LostAnew, Changed}
+use Rattle.sent.specs.Record.{is_acknowledged, is_lost, next_of, acked_before, lost_before, floor_of, acked_at, lost_at, state_of, state_at, is_due, DueMarks, record_of, consistent}
+use Rattle.sent.specs.Heard.{within, end_after, heard_state, state_after, newly, newly_in, Hearing, refused_as, accepted_as, hear_ranges, hear_checked, hear, IsHeard, FrameMarks, AckedAnew, LostAnew, Changed}
 use Rattle.sent.specs.declared.Reply.{Reply}
 use Rattle.sent.proofs.Records.{record_is}
 

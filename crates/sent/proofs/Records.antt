@@ -1,15 +1,14 @@
 -- A record by the states of its numbers: 36 words whose marks are what the states say are the record of those states, and it says them.
 -- Assumes nothing.
-use Prim.Native.Nat.{ℕ, zero, suc, ◌+◌, ◌-◌, ◌*◌, ◌/◌, ◌%◌, ◌^◌, ◌≤◌, ◌<◌}
-use mathlib.Core.Path.{◌≡◌, refl, sym, ap, ap₂, ◌∙◌, subst}
-use mathlib.Core.Bool.{Bool, true, false, not, ◌&&◌, ◌||◌}
+use Prim.Native.Nat.{ℕ, ◌+◌, ◌-◌, ◌/◌, ◌%◌, ◌^◌, ◌≤◌, ◌<◌}
+use mathlib.Core.Path.{◌≡◌, refl, sym, ap, ap₂, ◌∙◌}
 use mathlib.Core.List.{List, [], ◌∷◌, ◌++◌}
 use native.Mathlib.Omega.{arith}
 use lib.ListN.{length, get_or}
 use Rattle.window.specs.Window.{is_set}
-use Rattle.marks.specs.Marks.{mark, each, bits_of, number_at, ring_of}
+use Rattle.marks.specs.Marks.{each, bits_of, number_at, ring_of}
 use Rattle.marks.proofs.Rings.{each-element, each-split, each-moved, get_d_after, ring-is, ring-says}
-use Rattle.sent.specs.Record.{State, Outstanding, Acknowledged, Lost, is_acknowledged, is_lost, most_held, next_of, acked_before, lost_before, end_of, floor_of, acked_at, lost_at, state_of, state_at, record_of}
+use Rattle.sent.specs.Record.{State, Outstanding, Acknowledged, Lost, is_acknowledged, is_lost, most_held, next_of, acked_before, lost_before, end_of, acked_at, lost_at, state_of, state_at, record_of}
 
 -- ---- 36 words are the record of what they say
 

@@ -6,7 +6,7 @@ use mathlib.Core.Bool.{Bool, true, false, not, ◌&&◌, ◌||◌}
 use mathlib.Core.List.{List}
 use native.Mathlib.Nat.{mul-le-mul_right, mod-eq_of_lt}
 use native.Mathlib.Omega.{arith}
-use borrow.Author.Tests.{le-leb, lt-leb, leb-true, eq-eqb, ne_eqb}
+use borrow.Author.Tests.{le-leb, lt-leb, leb-true}
 use lib.Bits.{bit_or}
 use lib.Dec.{leb, eqb}
 use lib.ListN.{get_or, set}
@@ -15,7 +15,6 @@ use Rattle.wire.specs.Bytes.{pick}
 use Rattle.wire.specs.Numbers.{limit}
 use Rattle.window.specs.Words.{bit}
 use Rattle.window.specs.Window.{is_set}
-use Rattle.window.proofs.Bits.{bit-lt}
 use Rattle.marks.specs.Marks.{none_in}
 use Rattle.sent.specs.Record.{most_held, next_of, end_of, acked_before, lost_before, floor_of, is_outstanding, numbers_agree, wrong_at, consistent}
 use Rattle.sent.specs.Calls.{is_held_back, send_refusal, cleared, with_sent, unless_refused, send_after, send_answer}

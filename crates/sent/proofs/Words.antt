@@ -1,8 +1,8 @@
 -- Words made one after another, each by the words of the record, a frame and a rule that stand at its place, and the marks that they hold.
 -- Assumes nothing.
-use Prim.Native.Nat.{ℕ, zero, suc, ◌+◌, ◌-◌, ◌*◌, ◌/◌, ◌%◌, ◌^◌, ◌≤◌, ◌<◌}
+use Prim.Native.Nat.{ℕ, ◌+◌, ◌-◌, ◌/◌, ◌%◌, ◌^◌, ◌≤◌, ◌<◌}
 use mathlib.Core.Path.{◌≡◌, refl, sym, ap, ap₂, ◌∙◌, subst}
-use mathlib.Core.Bool.{Bool, true, false, not, ◌&&◌, ◌||◌}
+use mathlib.Core.Bool.{Bool, not, ◌&&◌, ◌||◌}
 use mathlib.Core.List.{List}
 use native.Mathlib.Omega.{arith}
 use native.Mathlib.Decide.{dec_le}
@@ -11,9 +11,8 @@ use lib.ListN.{length, get_or, set, replicate, length-set, get_or-replicate}
 use lib.Pow.{pow_pos}
 use lib.Seq.{get_or-set_same, get_or-set_other}
 use Rattle.window.specs.Window.{is_set}
-use Rattle.marks.specs.Marks.{mark}
 use Rattle.marks.proofs.Bits.{set-and, set-or, set-not}
-use Rattle.sent.specs.Record.{acked_at, lost_at, next_of, acked_before, lost_before, end_of}
+use Rattle.sent.specs.Record.{next_of, acked_before, lost_before}
 use Rattle.sent.specs.Heard.{Either, Without, AckedAnew, LostAnew, Changed}
 
 pub either_is : (a b : ℕ) → a < 2 ^ 64 → b < 2 ^ 64 → Either (bit_or a b) a b

@@ -107,7 +107,7 @@ fn changed(losses: &[u64; WORDS], frame: &[u64; 16], due: &[u64; 16], end: u64) 
 
 // A refusal, with nothing listed.
 fn refused(refusal: u64) -> Reply
-    ensures* { λ r. ⌜ r ≡ record { result = refusal; length = 0; acked = 0; lost = 0 } ⌝ }
+    ensures { result ≡ record { result = refusal; length = 0; acked = 0; lost = 0 } }
 {
     Reply {
         result: refusal,

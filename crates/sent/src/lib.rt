@@ -1,6 +1,9 @@
 // The sending side's loss list: up to 1,024 sent numbers in a row, each outstanding, acknowledged or lost.
 // Carries request No. 9 of document 02; the packet threshold of 3 is that of RFC 9002 section 6.1.1.
 // The record is large, so the caller lends it and it is updated there; a refused call leaves it as it was.
+
+#![tactic(auto)]
+
 mod calls;
 mod hearing;
 mod record;

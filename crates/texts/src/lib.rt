@@ -1,6 +1,9 @@
 // Text for lines: numbers in decimal, some digits at a time; and, as definitions, forms with their values and bytes in hexadecimal.
 // Carries what the line of a logged call says of numbers and frames.
 // Every public function takes any number and any buffer, and refuses nothing.
+
+#![tactic(auto)]
+
 ghost use Rattle.std.specs.Prelude.{◌≡◌, [], ◌≤◌, length};
 ghost use Rattle.decimal.specs.Decimal.{places_of, last_digits};
 

@@ -16,7 +16,7 @@ use Rattle.wire.specs.Exactly.{OneOf}
 use Rattle.entries.specs.declared.Profile.TheVariants.{One}
 use Rattle.report.specs.Reader.{read_report}
 use Rattle.report.proofs.Exactly.{report-reads}
-use Rattle.totals.specs.Totals.{longest, too_long, number_of}
+use Rattle.totals.specs.Totals.{longest, too_long}
 use Rattle.totals.specs.Adding.{brings}
 use Rattle.totals.specs.Sums.{NumbersHavePlaces}
 use Rattle.totals.proofs.Summing.{number-long, number_read, brings-number}
@@ -27,6 +27,7 @@ low [] = true
 low (x ∷ xs) = pick (leb x too_long) (low xs) false
 
 one-low : (n : ℕ) (xs : List ℕ) → OneOf n xs → low xs ≡ true → n ≤ too_long
+one-low n [] o e = elim o [ ]
 one-low n (x ∷ xs) o e = go (leb x too_long) refl o e (one-low n xs)
   where
     go : (b : Bool) → leb x too_long ≡ b → OneOf n (x ∷ xs) → pick b (low xs) false ≡ true → (OneOf n xs → low xs ≡ true → n ≤ too_long) → n ≤ too_long

@@ -8,14 +8,12 @@ use mathlib.Core.List.{List, [], ◌∷◌, ◌++◌, append_assoc, append-nil}
 use native.Mathlib.Nat.{lt_of_not-le}
 use native.Mathlib.Decide.{dec_le}
 use native.Mathlib.Omega.{arith}
-use borrow.Author.Tests.{le-leb, lt-leb, eq-eqb, ne_eqb, eqb-true, eqb-false}
+use borrow.Author.Tests.{le-leb, lt-leb, eq-eqb, eqb-true}
 use lib.Dec.{eqb, leb}
 use lib.ListN.{length, get_or}
 use Rattle.wire.specs.Bytes.{pick}
 use Rattle.entries.specs.declared.Profile.TheVariants.{One}
-use Rattle.report.specs.declared.Header.{Header}
 use Rattle.report.specs.Reader.{read_report, entries_of}
-use Rattle.totals.specs.declared.Totals.{Totals}
 use Rattle.totals.specs.declared.Brought.{Brought}
 use Rattle.totals.specs.Totals.{longest, too_long, number_of, accepted, one, how_many, summed, status_count, places, part_in, sum_at, most, kept, mark, listed, totals_of}
 use Rattle.totals.specs.Adding.{refused_brings, accepted_brings, brings, share, sum_with, mark_with, with, added}

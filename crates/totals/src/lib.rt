@@ -1,6 +1,9 @@
 // The week's totals: what a file of reports comes to.
 // Carries document 02, No. 13, all that stands between input and page; crate page has the page, and the program `week` reads and prints.
 // Every public function takes any bytes and any totals.
+
+#![tactic(auto)]
+
 mod adding;
 mod files;
 

@@ -70,7 +70,7 @@ first_then (first_came place time) later = first_came place time
 pub same-fate : (f : Fate) → f ≡ fate_then f unknown unknown
 same-fate unknown = refl
 same-fate (ended time) = refl
-same-fate (came time late) = refl
+same-fate (came time after) = refl
 
 pub same_first : (f : FirstArrival) → f ≡ first_then f none_yet
 same_first none_yet = refl
@@ -80,13 +80,13 @@ same_first (first_came place time) = refl
 pub then-stays : (f a b e : Fate) → has_come f ≡ true → fate_then f a e ≡ fate_then f b e
 then-stays unknown a b e h = clash h refl
 then-stays (ended time) a b e h = clash h refl
-then-stays (came time late) a b e h = refl
+then-stays (came time after) a b e h = refl
 
 -- one that has not come comes
 pub then-comes : (f e : Fate) (time : ℕ) (late : Bool) → has_come f ≡ false → came time late ≡ fate_then f (came time late) e
-then-comes unknown e time late h = refl
-then-comes (ended since) e time late h = refl
-then-comes (came since before) e time late h = clash refl h
+then-comes unknown e time after h = refl
+then-comes (ended since) e time after h = refl
+then-comes (came since before) e time after h = clash refl h
 
 -- one of which something is known does not end
 pub then-known : (state time : ℕ) (a e g : Fate) → (state ≡ nothing → ⊥) → fate_then (fate_in state time) a e ≡ fate_then (fate_in state time) a g

@@ -1,6 +1,6 @@
 -- The average of the paper, by sorted gaps, is the one that the code works out from the spread and the number of arrivals.
 -- Assumes nothing.
-use Prim.Native.Nat.{ℕ, suc, ◌+◌, ◌-◌, ◌≤◌, max, min}
+use Prim.Native.Nat.{ℕ, suc, ◌+◌, ◌≤◌, max, min}
 use mathlib.Core.Path.{◌≡◌, refl, sym, ap, ◌∙◌}
 use mathlib.Core.List.{List, [], ◌∷◌}
 use native.Mathlib.Nat.{max-eq_left, max-eq_right}

@@ -58,7 +58,7 @@ no-time-of word times a = no-time-in (state_of word) (time_of word) times (leb-f
 pub status-came : (fate : Fate) (a b : Bool) → has_come fate ≡ true → status_from fate a ≡ status_from fate b
 status-came unknown a b e = clash e refl
 status-came (ended time) a b e = clash e refl
-status-came (came time late) a b e = refl
+status-came (came time l) a b e = refl
 
 -- by the tests of its state, one after the other
 status-in : (state time : ℕ) (lost : Bool) → state < 4 → status_from (fate_in state time) lost ≡ pick (eqb state received) 0 (pick (eqb state late) 1 (pick (eqb state ended_early) 3 (pick lost 2 no_status)))

@@ -1,6 +1,9 @@
 // The tracker of object statuses: what became of 256 objects in a row, and the report's summary and entries from that.
 // Carries request No. 4 of document 02; statuses and summary are those of MoQ Multimodal Feedback.
 // The record is large, so the caller lends it and it is updated there; a refused call leaves it as it was.
+
+#![tactic(auto)]
+
 mod average;
 mod calls;
 mod counting;

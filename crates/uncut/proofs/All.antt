@@ -1,24 +1,22 @@
 -- Of an accepted report the records delivered are its entries, a refusal that stands is the end's, and no call stands still while there is something to take.
 -- Assumes nothing.
-use Prim.Native.Nat.{ℕ, zero, suc, ◌+◌, ◌-◌, ◌*◌, ◌≤◌, ◌<◌}
-use mathlib.Core.Path.{◌≡◌, refl, sym, ap, ◌∙◌}
+use Prim.Native.Nat.{ℕ, zero, suc, ◌+◌, ◌-◌, ◌*◌, ◌≤◌}
+use mathlib.Core.Path.{◌≡◌, refl, sym, ◌∙◌}
 use mathlib.Core.Bool.{Bool, true, false}
-use mathlib.Core.List.{List, [], ◌∷◌, ◌++◌}
+use mathlib.Core.List.{List, [], ◌∷◌}
 use native.Mathlib.Omega.{arith}
 use borrow.Author.Tests.{leb-true, le-ltb}
-use lib.Dec.{leb, eqb, ltb}
-use lib.ListN.{length, take, drop, length-drop}
+use lib.Dec.{leb, eqb}
+use lib.ListN.{length, drop, length-drop}
 use Rattle.wire.specs.Bytes.{pick}
 use Rattle.entries.specs.Profiles.{record_size}
-use Rattle.entries.specs.Entries.{records_good, entries_good}
+use Rattle.entries.specs.Entries.{entries_good}
 use Rattle.entries.specs.declared.Profile.{Profile}
 use Rattle.report.specs.Header.{count_of}
 use Rattle.report.specs.Reader.{Reading, Whole, Stopped, part_of, read_numbers, judge_entries, report_reading, report_of, entries_in}
-use Rattle.report.specs.declared.Report.{Report}
 use Rattle.uncut.specs.State.{State, Numbers, Records, Counting, Refused, Accepted, standing, at_end}
-use Rattle.uncut.specs.Step.{step, given}
 use Rattle.uncut.specs.Whole.{good_run, good_in, AllDelivered, StandsAtTheEnd}
-use Rattle.uncut.specs.Cutting.{closed, stops, taking, Moves}
+use Rattle.uncut.specs.Cutting.{closed, taking, Moves}
 use Rattle.uncut.proofs.Rows.{run-all, part-good}
 use Rattle.uncut.proofs.Uncut.{good-delivered}
 

@@ -1,13 +1,13 @@
 -- Cutting does not matter: a fold over an append is two folds; and of an accepted report all entries are delivered.
 -- Assumes nothing.
-use Prim.Native.Nat.{ℕ, zero, suc, ◌+◌, ◌-◌, ◌*◌, ◌≤◌, ◌<◌}
+use Prim.Native.Nat.{ℕ, zero, suc}
 use mathlib.Core.Path.{◌≡◌, refl, sym, ap, ap₂, ◌∙◌}
-use mathlib.Core.Bool.{Bool, true, false}
+use mathlib.Core.Bool.{true, false}
 use mathlib.Core.List.{List, [], ◌∷◌, ◌++◌, append_assoc}
 use native.Mathlib.Omega.{arith}
-use lib.ListN.{length, take, drop, take-append-drop}
+use lib.ListN.{take, drop, take-append-drop}
 use Rattle.entries.specs.declared.Profile.{Profile}
-use Rattle.uncut.specs.State.{State, Numbers, Records, Counting, Refused, Accepted, start, report_at, at_end}
+use Rattle.uncut.specs.State.{State, Numbers, Records, Counting, Refused, Accepted, report_at, at_end}
 use Rattle.uncut.specs.Step.{step, given, after, delivered}
 use Rattle.uncut.specs.Cutting.{closed, taking, Fed, over, shut, call, CutAnyhow}
 use Rattle.uncut.proofs.Uncut.{same_answer, good-delivered}

@@ -1,21 +1,20 @@
 -- A number in bytes that grow at their end or are cut at their start: what is whole stays as it was read, and a place is only a place.
 -- Assumes nothing.
-use Prim.Native.Nat.{ℕ, zero, suc, ◌+◌, ◌-◌, ◌*◌, ◌/◌, ◌%◌, ◌^◌, ◌≤◌, ◌<◌}
+use Prim.Native.Nat.{ℕ, ◌+◌, ◌-◌, ◌/◌, ◌≤◌, ◌<◌}
 use mathlib.Core.Path.{◌≡◌, refl, sym, ap, ◌∙◌}
-use mathlib.Core.Bool.{Bool, true, false}
+use mathlib.Core.Bool.{Bool}
 use mathlib.Core.List.{List, [], ◌∷◌, ◌++◌}
 use native.Mathlib.Nat.{add-zero}
 use native.Mathlib.Omega.{arith}
-use borrow.Author.Tests.{le-leb, lt-leb, leb-true, leb-false}
-use lib.Dec.{leb}
+use borrow.Author.Tests.{le-leb, lt-leb}
 use lib.Pow.{pow_pos}
 use lib.ListN.{length, get_or, take, drop, length-append, length-drop, get_or-append}
 use lib.Seq.{get_or-drop, take-append-le}
-use Rattle.wire.specs.Bytes.{pick, be}
+use Rattle.wire.specs.Bytes.{be}
 use Rattle.wire.specs.Fields.{read_fixed}
 use Rattle.wire.specs.Numbers.{len_of, in_form, read_form, read_number}
 use Rattle.wire.specs.declared.Fixed.{Fixed}
-use Rattle.wire.specs.declared.Fixed.TheVariants.{Value as FixedValue, Ends as FixedEnds}
+use Rattle.wire.specs.declared.Fixed.TheVariants.{Value as FixedValue}
 use Rattle.wire.specs.declared.Number.{Number}
 use Rattle.wire.specs.declared.Number.TheVariants.{Value, Ends}
 use Rattle.wire.proofs.Lengths.{split}

@@ -1,24 +1,24 @@
 -- Records in a row, taken one by one: how the entries are judged and which of them are good, from the first record and from those behind it.
 -- Assumes nothing.
-use Prim.Native.Nat.{ℕ, zero, suc, ◌+◌, ◌-◌, ◌*◌, ◌/◌, ◌≤◌, ◌<◌}
+use Prim.Native.Nat.{ℕ, zero, suc, ◌+◌, ◌*◌, ◌/◌, ◌≤◌, ◌<◌}
 use mathlib.Core.Path.{◌≡◌, refl, sym, ap, ap₂, ◌∙◌}
 use mathlib.Core.Bool.{Bool, true, false}
-use mathlib.Core.List.{List, [], ◌∷◌, ◌++◌, append-nil}
-use native.Mathlib.Nat.{mul-suc, mul-zero, mul_comm, mul-div_cancel_left}
+use mathlib.Core.List.{List, [], ◌++◌}
+use native.Mathlib.Nat.{mul-suc, mul-zero, mul-div_cancel_left}
 use native.Mathlib.Omega.{arith}
-use borrow.Author.Tests.{le-leb, lt-leb, eq-eqb, ne_eqb, leb-true, leb-false, eqb-true, eqb-false}
+use borrow.Author.Tests.{le-leb, lt-leb, eq-eqb, ne_eqb, eqb-true, eqb-false}
 use lib.Dec.{leb, eqb}
 use lib.ListN.{length, take, drop, length-append, length-drop, take-append-drop}
 use lib.Seq.{take_all, take_at, drop_at, take-add, length-take-le}
 use Rattle.wire.specs.Bytes.{pick}
 use Rattle.wire.proofs.Lengths.{split}
-use Rattle.entries.specs.Profiles.{group_bytes, record_size}
+use Rattle.entries.specs.Profiles.{record_size}
 use Rattle.entries.specs.Entries.{entry_of, at_or_above, follows, records_good, entries_good}
 use Rattle.entries.specs.declared.Profile.{Profile}
 use Rattle.entries.specs.declared.Entry.{Entry}
 use Rattle.entries.specs.declared.Entry.TheVariants.{Record, Ends, Broken, OtherProfile}
 use Rattle.report.specs.Header.{header_of, empty_header, count_of}
-use Rattle.report.specs.Reader.{Reading, Whole, Stopped, part_of, judge_entries, report_of}
+use Rattle.report.specs.Reader.{Whole, Stopped, part_of, judge_entries, report_of}
 use Rattle.report.specs.declared.Report.{Report}
 use Rattle.uncut.specs.Step.{group_in, above_in}
 use Rattle.uncut.specs.Whole.{good_run}

@@ -1,14 +1,14 @@
 -- The reader in pieces comes to what the whole reader comes to: from each state a byte more leaves what is ahead as it was.
 -- Assumes nothing.
-use Prim.Native.Nat.{ℕ, zero, suc, ◌+◌, ◌-◌, ◌*◌, ◌≤◌, ◌<◌, zero-le}
+use Prim.Native.Nat.{ℕ, zero, suc, ◌+◌, ◌*◌, ◌≤◌, ◌<◌, zero-le}
 use mathlib.Core.Path.{◌≡◌, refl, sym, ap, ◌∙◌}
 use mathlib.Core.Bool.{Bool, true, false}
-use mathlib.Core.List.{List, [], ◌∷◌, ◌++◌, append-nil, append_assoc}
+use mathlib.Core.List.{List, [], ◌∷◌, ◌++◌, append-nil}
 use native.Mathlib.Nat.{mul-zero}
 use native.Mathlib.Omega.{arith}
-use borrow.Author.Tests.{lt-leb, le-leb, leb-false, leb-true, ne_eqb, eqb-true, ltb-true, ltb-false}
+use borrow.Author.Tests.{lt-leb, le-leb, leb-false, ne_eqb, ltb-true, ltb-false}
 use lib.Dec.{leb, eqb, ltb}
-use lib.ListN.{length, take, drop, length-append, length-drop}
+use lib.ListN.{length, length-append}
 use lib.Seq.{append_snoc}
 use Rattle.wire.specs.Bytes.{pick}
 use Rattle.wire.specs.Fields.{formed}
@@ -20,8 +20,8 @@ use Rattle.entries.specs.Profiles.{record_size}
 use Rattle.entries.specs.Entries.{entry_of, records_good}
 use Rattle.entries.specs.declared.Profile.{Profile}
 use Rattle.report.specs.Limits.{most_numbers}
-use Rattle.report.specs.Header.{judge_field, wanted_of, count_of, header_of, empty_header}
-use Rattle.report.specs.Reader.{Reading, Whole, Stopped, read_numbers, judge_entries, report_reading, report_of}
+use Rattle.report.specs.Header.{judge_field, wanted_of, count_of}
+use Rattle.report.specs.Reader.{judge_entries, report_reading, report_of}
 use Rattle.report.specs.declared.Report.{Report}
 use Rattle.uncut.specs.State.{State, Numbers, Records, Counting, Refused, Accepted, start, report_at, at_end}
 use Rattle.uncut.specs.Step.{group_in, above_in, after_bad, with_number, field_grown, record_judged, record_grown, record_given, step, given, after, delivered}

@@ -1,6 +1,6 @@
 -- What the reader in pieces owes to the whole reader: "For all cuttings, and a buffer that holds at least one record, the header, the
 -- entries in order of an accepted report, and the refusal number equal those of the whole reader."
-use Rattle.std.specs.Prelude.{ℕ, zero, suc, ◌*◌, ◌/◌, ◌≡◌, List, [], ◌++◌, leb, length, take, drop}
+use Rattle.std.specs.Prelude.{ℕ, zero, suc, ◌≡◌, List, [], ◌++◌, leb, length, take, drop}
 use Rattle.wire.specs.Bytes.{pick}
 use Rattle.entries.specs.Profiles.{record_size}
 use Rattle.entries.specs.Entries.{entry_of, records_good}

@@ -1,103 +1,90 @@
 // How a line is written: the call, the bytes or numbers that it is given, and what it answers.
 use frames::{Ack, Checked, Frequency, Immediate, Tail};
 use receiver::{Agreed, Verdict};
+use std::io;
 use wire::{Fixed, Length, Number, Put};
 
-// A text.
-pub fn text(t: &[u8]) {
-    io::write_all(1, t);
-}
-
-// A text and a number behind it.
-pub fn count(t: &[u8], n: u64) {
-    io::write_all(1, t);
-    io::print_decimal(1, n);
-}
-
-fn wide(x: u8) -> u64 {
-    x as u64
-}
-
 // The bytes of s, a blank before each.
-pub fn bytes(s: &[u8]) {
-    if s.len() == 0 {
-        text(b" (empty)");
+pub fn bytes(rt: &impl Print, s: &[u8]) -> io::Result<()> {
+    if s.is_empty() {
+        print!(rt; " (empty)")?;
     }
-    let mut i: usize = 0;
-    while i < s.len() {
-        text(b" ");
-        io::print_hex(1, wide(s[i]), 2);
-        i += 1;
+    for x in s {
+        print!(rt; " {x:02x}")?;
     }
+    Ok(())
 }
 
 // The numbers of s, a blank before each.
-pub fn numbers(s: &[u64]) {
-    if s.len() == 0 {
-        text(b" (empty)");
+pub fn numbers(rt: &impl Print, s: &[u64]) -> io::Result<()> {
+    if s.is_empty() {
+        print!(rt; " (empty)")?;
     }
-    let mut i: usize = 0;
-    while i < s.len() {
-        count(b" ", s[i]);
-        i += 1;
+    for n in s {
+        print!(rt; " {n}")?;
     }
+    Ok(())
+}
+
+// What is said in place of an answer.
+fn refused(rt: &impl Print, refusal: u64) -> io::Result<()> {
+    print!(rt; ": refused {refusal}")
 }
 
 // A value that was read, and how many bytes it took.
-fn value_found(value: u64, length: usize) {
-    count(b": value ", value);
-    count(b", length ", length as u64);
+fn value_found(rt: &impl Print, value: u64, length: usize) -> io::Result<()> {
+    print!(rt; ": value {value}, length {length}")
 }
 
 // What a reader of fixed fields answers.
-pub fn fixed(answer: Fixed) {
+pub fn fixed(rt: &impl Print, answer: Fixed) -> io::Result<()> {
     match answer {
-        Fixed::Value { value, next } => value_found(value, next),
-        Fixed::Ends => count(b": refused ", answer.refusal()),
+        Fixed::Value { value, next } => value_found(rt, value, next)?,
+        Fixed::Ends => refused(rt, answer.refusal())?,
     }
-    text(b"\n");
+    println!(rt; "")
 }
 
 // What the reader of numbers answers.
-pub fn number(answer: Number) {
+pub fn number(rt: &impl Print, answer: Number) -> io::Result<()> {
     match answer {
         Number::Value {
             value,
             next,
             shortest,
         } => {
-            value_found(value, next);
+            value_found(rt, value, next)?;
             if !shortest {
-                text(b", not the shortest form");
+                print!(rt; ", not the shortest form")?;
             }
         }
-        Number::Ends => count(b": refused ", answer.refusal()),
+        Number::Ends => refused(rt, answer.refusal())?,
     }
-    text(b"\n");
+    println!(rt; "")
 }
 
 // What a writer answers, and the buffer that it leaves.
-pub fn put(answer: Put, buf: &[u8]) {
+pub fn put(rt: &impl Print, answer: Put, buf: &[u8]) -> io::Result<()> {
     match answer {
-        Put::Done { next } => count(b": length ", next as u64),
-        _ => count(b": refused ", answer.refusal()),
+        Put::Done { next } => print!(rt; ": length {next}")?,
+        _ => refused(rt, answer.refusal())?,
     }
-    text(b"; buffer");
-    bytes(buf);
-    text(b"\n");
+    print!(rt; "; buffer")?;
+    bytes(rt, buf)?;
+    println!(rt; "")
 }
 
 // How many bytes numbers take together.
-pub fn length(answer: Length) {
+pub fn length(rt: &impl Print, answer: Length) -> io::Result<()> {
     match answer {
-        Length::Bytes(total) => count(b": length ", total as u64),
-        Length::TooLarge => count(b": refused ", answer.refusal()),
+        Length::Bytes(total) => print!(rt; ": length {total}")?,
+        Length::TooLarge => refused(rt, answer.refusal())?,
     }
-    text(b"\n");
+    println!(rt; "")
 }
 
 // What the reader of ACK_FREQUENCY answers.
-pub fn frequency(answer: Frequency) {
+pub fn frequency(rt: &impl Print, answer: Frequency) -> io::Result<()> {
     match answer {
         Frequency::Frame {
             sequence,
@@ -106,40 +93,33 @@ pub fn frequency(answer: Frequency) {
             reordering,
             used,
         } => {
-            count(b": sequence ", sequence);
-            count(b", threshold ", threshold);
-            count(b", delay ", delay);
-            count(b", reordering ", reordering);
-            count(b", length ", used as u64);
+            print!(rt; ": sequence {sequence}, threshold {threshold}, delay {delay}")?;
+            print!(rt; ", reordering {reordering}, length {used}")?;
         }
-        _ => count(b": refused ", answer.refusal()),
+        _ => refused(rt, answer.refusal())?,
     }
-    text(b"\n");
+    println!(rt; "")
 }
 
 // What the reader of IMMEDIATE_ACK answers.
-pub fn immediate(answer: Immediate) {
+pub fn immediate(rt: &impl Print, answer: Immediate) -> io::Result<()> {
     match answer {
-        Immediate::Frame { used } => count(b": length ", used as u64),
-        _ => count(b": refused ", answer.refusal()),
+        Immediate::Frame { used } => print!(rt; ": length {used}")?,
+        _ => refused(rt, answer.refusal())?,
     }
-    text(b"\n");
+    println!(rt; "")
 }
 
 // The counts of an ACK frame of type 03: ECT(0), ECT(1), CE.
-fn counts(tail: Tail) {
+fn counts(rt: &impl Print, tail: Tail) -> io::Result<()> {
     match tail {
-        Tail::Nothing => {}
-        Tail::Counts { ect0, ect1, ce } => {
-            count(b", counts ", ect0);
-            count(b" ", ect1);
-            count(b" ", ce);
-        }
+        Tail::Nothing => Ok(()),
+        Tail::Counts { ect0, ect1, ce } => print!(rt; ", counts {ect0} {ect1} {ce}"),
     }
 }
 
 // What the ACK reader answers, and the slice that it leaves.
-pub fn ack(answer: Ack, slice: &[u64]) {
+pub fn ack(rt: &impl Print, answer: Ack, slice: &[u64]) -> io::Result<()> {
     match answer {
         Ack::Frame {
             largest,
@@ -148,21 +128,18 @@ pub fn ack(answer: Ack, slice: &[u64]) {
             used,
             tail,
         } => {
-            count(b": largest ", largest);
-            count(b", delay ", delay);
-            count(b", ranges ", ranges);
-            count(b", length ", used as u64);
-            counts(tail);
+            print!(rt; ": largest {largest}, delay {delay}, ranges {ranges}, length {used}")?;
+            counts(rt, tail)?;
         }
-        _ => count(b": refused ", answer.refusal()),
+        _ => refused(rt, answer.refusal())?,
     }
-    text(b"; slice");
-    numbers(slice);
-    text(b"\n");
+    print!(rt; "; slice")?;
+    numbers(rt, slice)?;
+    println!(rt; "")
 }
 
 // What the check of an ACK frame answers: where its first range stands, and how many come after it.
-pub fn checked(answer: Checked) {
+pub fn checked(rt: &impl Print, answer: Checked) -> io::Result<()> {
     match answer {
         Checked::Frame {
             largest,
@@ -172,27 +149,25 @@ pub fn checked(answer: Checked) {
             used,
             tail,
         } => {
-            count(b": largest ", largest);
-            count(b", delay ", delay);
-            count(b", first range at ", at as u64);
-            count(b", ranges after it ", more);
-            count(b", length ", used as u64);
-            counts(tail);
+            print!(rt; ": largest {largest}, delay {delay}, first range at {at}")?;
+            print!(rt; ", ranges after it {more}, length {used}")?;
+            counts(rt, tail)?;
         }
-        _ => count(b": refused ", answer.refusal()),
+        _ => refused(rt, answer.refusal())?,
     }
-    text(b"\n");
+    println!(rt; "")
 }
 
 // What a threshold frame is answered, and the values in force after it.
-pub fn verdict(answer: Verdict, agreed: Agreed) {
+pub fn verdict(rt: &impl Print, answer: Verdict, agreed: Agreed) -> io::Result<()> {
     match answer {
-        Verdict::Accepted => text(b": accepted"),
-        Verdict::Stale => text(b": stale"),
-        Verdict::Refused(n) => count(b": refused ", n),
+        Verdict::Accepted => print!(rt; ": accepted")?,
+        Verdict::Stale => print!(rt; ": stale")?,
+        Verdict::Refused(n) => refused(rt, n)?,
     }
-    count(b"; in force ", agreed.threshold);
-    count(b" ", agreed.delay.0);
-    count(b" ", agreed.reordering);
-    text(b"\n");
+    let delay = agreed.delay.0;
+    println!(rt;
+        "; in force {} {delay} {}",
+        agreed.threshold, agreed.reordering
+    )
 }

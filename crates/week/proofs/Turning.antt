@@ -12,8 +12,8 @@ use lib.Dec.{eqb}
 use lib.IntN.{ℤ, pos, negsuc}
 use lib.ListN.{length, take, drop, length-take, length-drop, length-append, take-append-drop}
 use lib.Seq.{take_at, take-nil, take-append-add}
-use Rattle.libc.specs.Io.{Moved}
-use Rattle.io.specs.Counts.{clamp_len}
+use Rattle.std.proofs.Math.Nat.{min-le_right}
+use Rattle.std.specs.Counts.{clamp_len}
 use Rattle.wire.specs.Bytes.{pick}
 use Rattle.totals.specs.declared.Taken.{Taken}
 use Rattle.totals.specs.Files.{start, taken, moved}
@@ -65,27 +65,37 @@ part-long left xs = simp (length-take, length-drop) (omega arith)
 
 -- ---- what a read answers
 
+-- no more than had room
+pub clamp-most : (got : ℤ) (most : ℕ) → clamp_len got most ≤ most
+clamp-most (pos n) most = min-le_right n most
+clamp-most (negsuc n) most = omega arith
+
 -- 0 and nothing else has no bit set
 pub end-by-bits : (got : ℤ) → SFits w64 got → eqb (of_z w64 got) 0 ≡ at_end got
 end-by-bits (pos zero) f = refl
 end-by-bits (pos (suc n)) f = ne_eqb (suc n) 0 (λ e. omega arith)
 end-by-bits (negsuc n) f = ne_eqb (2 ^ 64 - suc n) 0 (λ e. omega (arith, f.sfits))
 
+-- what a read may answer: -1, or how many bytes it gave, at most as many as it has room for
+abbrev pub Moved : ℕ → ℤ → Type 0
+Moved room (pos n) = n ≤ room
+Moved room (negsuc n) = n ≡ 0
+
 -- as many bytes as it answered
 came-many : (got : ℤ) (zs : List ℕ) → Moved (length zs) got → length (take (clamp_len got (length zs)) zs) ≡ many got
 came-many (pos n) zs m = simp length-take (omega arith)
 came-many (negsuc n) zs m = refl
 
--- us is what the read left of the part that it was lent, answer what it answered, and got the same as it is handed on
-pub turned_by : (p : Place) {r : Place} (xs us : List ℕ) {ys : List ℕ} {got answer : ℤ} → p.left ≤ length xs → length us ≡ length xs - p.left
-    → got ≡ answer → Moved (length us) answer → Took p (take p.left xs ++ us) got r ys → Turned p xs r ys
-turned_by p {r} xs us {ys} {got} h l g m t =
+-- us is what the read left of the part that it was lent, got what it answered
+pub turned_by : (p : Place) {r : Place} (xs us : List ℕ) {ys : List ℕ} {got : ℤ} → p.left ≤ length xs → length us ≡ length xs - p.left
+    → Moved (length us) got → Took p (take p.left xs ++ us) got r ys → Turned p xs r ys
+turned_by p {r} xs us {ys} {got} h l m t =
     let zs = take p.left xs ++ us in
     let n : length (take p.left xs) ≡ p.left = simp length-take (omega arith) in
     let d : length (drop p.left zs) ≡ length us = simp length-drop (omega (arith, length-append (take p.left xs) us)) in
     let e : standing p zs ≡ standing p xs = rw (take_at (take p.left xs) us p.left n) in
     record {
-      read = record { got = got; bytes = came p zs got; as_many = came-many got (drop p.left zs) (rw (d, g) m) };
+      read = record { got = got; bytes = came p zs got; as_many = came-many got (drop p.left zs) (rw d m) };
       turned = t.turned ∙ ap (λ (s : pieces.Place). pieces.turn s (came p zs got)) e;
       within = t.within;
       goes_on = t.goes_on;

@@ -2,7 +2,7 @@
 -- That the bytes and answers spoken of are those of the system's `read` no contract can say.
 use Rattle.std.specs.Prelude.{ℕ, zero, suc, ◌+◌, ◌-◌, ◌^◌, ◌≤◌, ◌≡◌, Bool, true, false, List, [], ◌∷◌, ◌++◌, ℤ, pos, negsuc, length, take, drop}
 use Rattle.std.specs.Int.Signed.{lt_z}
-use Rattle.io.specs.Counts.{clamp_len}
+use Rattle.std.specs.Counts.{clamp_len}
 use Rattle.wire.specs.Bytes.{pick}
 use Rattle.totals.specs.Totals.{longest}
 use Rattle.totals.specs.Files.{length_size}

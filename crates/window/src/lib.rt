@@ -1,6 +1,9 @@
 // The receive window: which of the last 1,024 numbers, from the floor up to L, were received (01, "The receiver record").
 // It is one number W below 2 ^ 1024, kept as sixteen words: place 1,023 stands for L, and place 1,023 - d for L - d.
 // Searches go word by word: trailing zeros of the inverted words find the first missing number (01, "Code places and their forms").
+
+#![tactic(auto)]
+
 ghost use Rattle.std.specs.Prelude.{◌≡◌, ◌*◌, ◌/◌, ◌-◌, ◌^◌, ◌<◌, ◌≤◌};
 ghost use Rattle.window.specs.Words.{number_of, words_of, words_in, other_than};
 ghost use Rattle.window.specs.Window.{places, value_of, lent_value, window_of, is_set, with_bit, first_clear, run_below, none_below};

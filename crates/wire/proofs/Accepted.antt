@@ -1,23 +1,22 @@
 -- What an accepted number says of the bytes: its form is no shorter than the shortest, and the shortest is what the writer writes.
 -- Assumes nothing.
-use Prim.Native.Nat.{ℕ, zero, suc, ◌+◌, ◌-◌, ◌*◌, ◌/◌, ◌%◌, ◌^◌, ◌≤◌, ◌<◌}
-use mathlib.Core.Path.{◌≡◌, refl, sym, ap, ◌∙◌, subst}
+use Prim.Native.Nat.{ℕ, suc, ◌+◌, ◌-◌, ◌*◌, ◌/◌, ◌%◌, ◌^◌, ◌≤◌, ◌<◌}
+use mathlib.Core.Path.{◌≡◌, refl, sym, ap, ◌∙◌}
 use mathlib.Core.Bool.{Bool, true, false}
-use mathlib.Core.List.{List, [], ◌∷◌, ◌++◌}
+use mathlib.Core.List.{List, [], ◌∷◌}
 use native.Mathlib.Nat.{add-zero, mod-lt, mul_comm, div-add-mod', div-div-eq-div-mul}
 use native.Mathlib.Omega.{arith}
 use borrow.Author.Tests.{leb-true, eq-eqb, eqb-true}
-use lib.Dec.{leb, eqb, lit<}
+use lib.Dec.{leb}
 use lib.Pow.{suc_ones, pow_pos, pow-lt}
 use lib.ListN.{length, get_or, take, drop, length-take, length-drop}
-use lib.Seq.{get_or-drop, get_or-take, length-take-le}
-use Rattle.wire.specs.Bytes.{pick, be, digits, Octets}
-use Rattle.wire.specs.Fields.{read_fixed, fixed}
-use Rattle.wire.specs.Numbers.{len_of, room_of, largest_of, limit, code_of, width_of, form, encode, is_shortest, in_form, read_form, read_number}
+use lib.Seq.{get_or-drop, get_or-take}
+use Rattle.wire.specs.Bytes.{pick, be, Octets}
+use Rattle.wire.specs.Fields.{read_fixed}
+use Rattle.wire.specs.Numbers.{len_of, room_of, limit, code_of, width_of, form, encode, is_shortest, in_form, read_form, read_number}
 use Rattle.wire.specs.Exactly.{FormsTold}
 use Rattle.wire.specs.declared.Fixed.{Fixed}
 use Rattle.wire.specs.declared.Fixed.TheVariants.{Value as FixedValue, Ends as FixedEnds}
-use Rattle.wire.specs.declared.Number.{Number}
 use Rattle.wire.specs.declared.Number.TheVariants.{Value, Ends}
 use Rattle.wire.proofs.Bytes.{be-above, digits-be, octets-part}
 use Rattle.wire.proofs.Lengths.{split, room-le, room-pos, code-least, small-code, width-found, width-least}

@@ -1,7 +1,7 @@
 -- Laws of bytes as numbers and of bytes written over others, each over the length and proved once.
 -- Assumes nothing.
-use Prim.Native.Nat.{ℕ, zero, suc, ◌+◌, ◌-◌, ◌*◌, ◌/◌, ◌%◌, ◌^◌, ◌≤◌, ◌<◌}
-use mathlib.Core.Path.{◌≡◌, refl, sym, ap, ◌∙◌}
+use Prim.Native.Nat.{ℕ, zero, suc, ◌+◌, ◌*◌, ◌/◌, ◌%◌, ◌^◌, ◌≤◌, ◌<◌}
+use mathlib.Core.Path.{◌≡◌, refl, ap, ◌∙◌}
 use mathlib.Core.List.{List, [], ◌∷◌, ◌++◌, append_assoc}
 use native.Mathlib.Nat.{add-zero, add_assoc, le_refl, le_trans, lt_of_lt_of_le, mul-le-mul_right, mul_assoc, pow-suc, pow-succ', pow-le-pow_right, one-le-pow, div-div-eq-div-mul, mod-eq_of_lt, zero-mul, zero-add, div-eq_of_lt-le}
 use native.Mathlib.Numerals.{add-one}

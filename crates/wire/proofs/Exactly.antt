@@ -12,7 +12,7 @@ use lib.ListN.{length, get_or}
 use Rattle.wire.specs.Bytes.{pick}
 use Rattle.wire.specs.Fields.{read_fixed, placed, after}
 use Rattle.wire.specs.Numbers.{len_of, encode_all, all_small, read_form, read_number, length_of, put_answer, put_bytes}
-use Rattle.wire.specs.Refusals.{number_refusal, fixed_refusal, put_refusal, length_refusal}
+use Rattle.wire.specs.Refusals.{put_refusal, length_refusal}
 use Rattle.wire.specs.Exactly.{OneOf, Small, Reads, FixedReads, NumberReads, Writes, NumbersWrite, Places, BytesWrite, Measures, NumbersMeasured, NumbersUnchanged, BytesUnchanged}
 use Rattle.wire.specs.declared.Put.{Put}
 use Rattle.wire.specs.declared.Put.TheVariants.{Done, TooLarge, NoRoom}

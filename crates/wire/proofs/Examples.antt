@@ -1,9 +1,8 @@
 -- P2 and P3 of document 01 and RFC 9000's published examples hold on the definitions: one list under one statement, which antt computes.
 -- Assumes nothing.
-use Prim.Native.Nat.{ℕ}
 use mathlib.Core.Path.{◌≡◌, refl}
 use mathlib.Core.Bool.{true, false}
-use mathlib.Core.List.{List, [], ◌∷◌}
+use mathlib.Core.List.{[], ◌∷◌}
 use Rattle.wire.specs.Fields.{read_fixed}
 use Rattle.wire.specs.Numbers.{first_from, width_of, form, encode, read_form, read_number}
 use Rattle.wire.specs.declared.Number.TheVariants.{Value, Ends}

@@ -1,16 +1,15 @@
 -- The four lengths and the shortest of them, over the code: the code found holds the number, and no smaller one does.
 -- Assumes nothing.
-use Prim.Native.Nat.{ℕ, zero, suc, ◌+◌, ◌-◌, ◌*◌, ◌^◌, ◌≤◌, ◌<◌, zero-le}
-use mathlib.Core.Path.{◌≡◌, refl, sym, ap, ◌∙◌}
-use mathlib.Core.Bool.{true, false}
+use Prim.Native.Nat.{ℕ, zero, suc, ◌+◌, ◌-◌, ◌^◌, ◌≤◌, ◌<◌, zero-le}
+use mathlib.Core.Path.{◌≡◌, sym, ap, ◌∙◌}
+use mathlib.Core.Bool.{true}
 use native.Mathlib.Nat.{le_of_suc-le-suc, mul-le-mul_left, lt_of_not-le, pow-le-pow_right, one-le-pow}
 use native.Mathlib.Decide.{dec_le}
 use native.Mathlib.Omega.{arith}
 use borrow.Author.Tests.{le-leb, lt-leb, lt-ltb, le-ltb, eq-eqb, ne_eqb}
-use lib.Dec.{leb, ltb, lit<}
+use lib.Dec.{ltb, lit<}
 use lib.Pow.{pow_pos}
 use lib.Arith.{lt_of_le-ne}
-use Rattle.wire.specs.Bytes.{pick}
 use Rattle.wire.specs.Numbers.{len_of, room_of, largest_of, limit, first_from, code_of, width_of, is_shortest}
 
 pub len-le : (k : ℕ) → k < 4 → len_of k ≤ 8

@@ -1,9 +1,9 @@
 -- What was written is read back, over the code, so for the four lengths at once and for forms that are longer than they need be.
 -- Assumes nothing.
-use Prim.Native.Nat.{ℕ, zero, suc, ◌+◌, ◌-◌, ◌*◌, ◌/◌, ◌%◌, ◌^◌, ◌≤◌, ◌<◌}
+use Prim.Native.Nat.{ℕ, suc, ◌+◌, ◌-◌, ◌*◌, ◌/◌, ◌%◌, ◌^◌, ◌≤◌, ◌<◌}
 use mathlib.Core.Path.{◌≡◌, refl, sym, ap, ◌∙◌, subst}
 use mathlib.Core.Bool.{true}
-use mathlib.Core.List.{List, [], ◌∷◌, ◌++◌, append-nil}
+use mathlib.Core.List.{List, [], ◌∷◌, ◌++◌}
 use native.Mathlib.Nat.{add-zero, zero-add, zero-mul, mul_assoc, pow-succ', one-le-pow, mul-add-div_right, mul-add-mod_self_right, mod-eq_of_lt, div-lt_iff_lt-mul}
 use native.Mathlib.Omega.{arith}
 use borrow.Author.Tests.{le-leb, eq-eqb}
@@ -12,16 +12,16 @@ use lib.Arith.{digits_lt}
 use lib.Pow.{suc_ones, pow_pos}
 use lib.ListN.{length, get_or, take, drop, length-append, get_or-append}
 use lib.Seq.{drop_at, take_at, get_or-drop, length-take-le}
-use Rattle.wire.specs.Bytes.{be, digits, splice}
+use Rattle.wire.specs.Bytes.{be}
 use Rattle.wire.specs.Fields.{read_fixed, field, fixed, written}
-use Rattle.wire.specs.Numbers.{len_of, room_of, limit, code_of, width_of, form, encode, is_shortest, in_form, read_form, read_number, put_bytes}
+use Rattle.wire.specs.Numbers.{len_of, room_of, limit, code_of, width_of, form, encode, is_shortest, read_form, read_number, put_bytes}
 use Rattle.wire.specs.declared.Fixed.TheVariants.{Value as FixedValue}
 use Rattle.wire.specs.Exactly.{FieldsAccept}
 use Rattle.wire.specs.declared.Number.{Number}
 use Rattle.wire.specs.declared.Number.TheVariants.{Value}
 use Rattle.wire.proofs.Bytes.{be-digits, length-fixed, digits-head}
 use Rattle.wire.proofs.Lengths.{code_fits, small-code, width-found}
-use Rattle.wire.proofs.Writing.{placed-yes, one-splice, length-encode}
+use Rattle.wire.proofs.Writing.{placed-yes, one-splice}
 
 -- a field of len bytes, with anything before and after it, reads as what it holds
 pub read-fixed : (len n : ℕ) (p q : List ℕ) (at : ℕ) → length p ≡ at → n < 256 ^ len → FixedValue n (at + len) ≡ read_fixed len (p ++ (fixed len n ++ q)) at

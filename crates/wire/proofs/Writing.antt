@@ -1,6 +1,6 @@
 -- What a write answers and leaves in the buffer: bytes at a place, one number, and numbers one after the other.
 -- Assumes nothing.
-use Prim.Native.Nat.{ℕ, zero, suc, ◌+◌, ◌-◌, ◌*◌, ◌^◌, ◌≤◌, ◌<◌}
+use Prim.Native.Nat.{ℕ, suc, ◌+◌, ◌-◌, ◌*◌, ◌^◌, ◌≤◌, ◌<◌}
 use mathlib.Core.Path.{◌≡◌, refl, sym, ap, ◌∙◌}
 use mathlib.Core.Bool.{Bool, true, false}
 use mathlib.Core.List.{List, [], ◌∷◌, ◌++◌, append_assoc, append-nil}
@@ -8,10 +8,10 @@ use native.Mathlib.Omega.{arith}
 use borrow.Author.Tests.{le-leb, lt-leb, leb-true}
 use lib.Dec.{leb}
 use lib.Arith.{digits_lt}
-use lib.ListN.{length, get_or, take, drop, length-take, length-drop, length-append}
+use lib.ListN.{length, get_or, take, drop, length-take, length-drop}
 use lib.Seq.{drop-drop, drop-cons}
 use native.Mathlib.Numerals.{add-one}
-use Rattle.wire.specs.Bytes.{pick, digits, splice}
+use Rattle.wire.specs.Bytes.{pick, splice}
 use Rattle.wire.specs.Fields.{fixed, placed, after, written}
 use Rattle.wire.specs.declared.Put.TheVariants.{Done, TooLarge, NoRoom}
 use Rattle.wire.specs.declared.Length.TheVariants.{Bytes, TooLarge as OneTooLarge}

@@ -1,5 +1,5 @@
 -- The shortest form by leading zeros: a number has 64 bits less its zeros, and a form of m bits holds it exactly where it has no more. Assumes nothing.
-use Prim.Native.Nat.{ℕ, suc, ◌+◌, ◌-◌, ◌*◌, ◌^◌, ◌≤◌, ◌<◌}
+use Prim.Native.Nat.{ℕ, suc, ◌-◌, ◌^◌, ◌≤◌, ◌<◌}
 use mathlib.Core.Path.{◌≡◌, refl, sym, ap, ◌∙◌}
 use native.Mathlib.Nat.{lt_of_lt_of_le, pow-suc}
 use native.Mathlib.Omega.{arith}

@@ -1,6 +1,9 @@
 // Numbers on the wire, and fixed fields: the bytes that frames and reports are made of.
 // Carries "Numbers on the wire" of document 01 (RFC 9000 section 16).
 // Every public function takes any bytes, any place and any value, and refuses by the paper's table.
+
+#![tactic(auto)]
+
 ghost use Rattle.std.specs.Prelude.{◌≡◌, ◌<◌};
 ghost use Rattle.wire.specs.Numbers.{len_of, largest_of};
 ghost use Rattle.wire.specs.Refusals.{number_refusal, fixed_refusal, put_refusal, length_refusal};

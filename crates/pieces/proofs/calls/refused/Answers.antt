@@ -1,0 +1,7 @@
+-- `pieces::calls::refused` meets its contract: the empty header stands beside the refusal.
+-- Assumes nothing.
+use mathlib.Core.Path.{refl}
+use Rattle.pieces.proofs.calls.refused.Goals as goal
+
+pub returns : goal.returns
+returns c = rw c.empty_header-header.ensures refl

@@ -1,0 +1,6 @@
+-- `receiver::Receiver::refused_opening` meets its contract: it opens as usual.
+-- Assumes nothing.
+use Rattle.receiver.proofs.Receiver.refused_opening.Goals as goal
+
+pub returns : goal.returns
+returns c = rw c.opened-next.ensures

@@ -1,0 +1,18 @@
+-- `report::asked_for` meets its contract: each arm is one line of the definition.
+-- Assumes nothing.
+use borrow.Author.Tests.{ne_eqb}
+use Rattle.report.proofs.profiles.asked_for.Goals as goal
+
+pub returns-in-1 : goal.returns-in-1
+returns-in-1 c =
+    rw c.in-1.is
+
+pub returns-in-2 : goal.returns-in-2
+returns-in-2 c =
+    rw c.in-2.is
+
+pub returns-in_default : goal.returns-in_default
+returns-in_default c =
+    let n = c.args.profile in
+    let r = c.in_default.in_default-own.rest in
+    rw (ne_eqb n 1 r.0.1, ne_eqb n 2 r.1)

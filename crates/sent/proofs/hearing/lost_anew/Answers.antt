@@ -1,0 +1,21 @@
+-- `sent::hearing::lost_anew` meets its contract. The loop's invariant: the words up to here are made.
+-- Assumes nothing.
+use native.Mathlib.Omega.{arith}
+use Rattle.sent.proofs.Words.{made_none, made_more, new-lost, lost-made}
+use Rattle.sent.proofs.hearing.lost_anew.Goals as goal
+
+pub loop-i-init : goal.loop-i-init
+loop-i-init c = (omega arith, made_none _)
+
+pub loop-i-preserved : goal.loop-i-preserved
+loop-i-preserved c =
+    let s = c.args in (
+      omega (arith, c.loop-i-test.true),
+      made_more _ c.loop-i.words c.loop-i.i _ c.loop-i-test.true c.loop-i.invariant.1
+          (new-lost s.losses.now s.frame.now s.due.now c.loop-i.i _ _ _ c.either-marked.ensures c.either.ensures c.without.ensures),
+    )
+
+pub returns : goal.returns
+returns c =
+    let s = c.args in
+    lost-made s.losses.now s.frame.now s.due.now c.loop-i.words c.loop-i.i c.loop-i-test.false c.loop-i.invariant.1

@@ -1,0 +1,25 @@
+-- `totals::Totals::add` meets its contract: the sums are taken out, grow and are put back.
+-- Assumes nothing.
+use mathlib.Core.Path.{ap, ◌∙◌}
+use native.Mathlib.Omega.{arith}
+use borrow.Author.Rules.{rules}
+use mir.Val.{Fits}
+use mir.Syntax.{w64}
+use lib.ListN.{get_or}
+use Rattle.totals.specs.Adding.{with}
+use Rattle.totals.proofs.Numbers.{brings-low}
+use Rattle.totals.proofs.Totals.add.Goals as goal
+
+pub add_in-requires : goal.add_in-requires
+add_in-requires c =
+    let a = c.args in (
+      rw c.by-brought.ensures (brings-low a.report.now),
+      record {
+        sums-long = search rules;
+        marks-long = search rules;
+        words = λ i h. let f : Fits w64 (get_or a.self.sums i 0) = search rules in omega (arith, f.fits);
+      },
+    )
+
+pub returns : goal.returns
+returns c = c.add_in.ensures ∙ ap (with c.args.self) c.by-brought.ensures
