@@ -1,5 +1,5 @@
 # The two commands of README.md are `make test` and `make run`; the others show the library from outside.
-.PHONY: help test emulated hearing live run picture week archive program command build host relay rust install uninstall installed readme dist deb packaged release oracle compare wrong bench speed
+.PHONY: help test emulated hearing live run picture week archive program command build host relay rust install uninstall installed readme dist deb packaged release oracle compare refused wrong bench speed
 
 # The archive and the programs are x86-64 code. On another processor what is linked with them is compiled for it, and emulated.
 ifeq ($(shell uname -m),x86_64)
@@ -17,11 +17,11 @@ RUSTDOC = /usr/bin/rustdoc --target x86_64-unknown-linux-gnu -C linker=$(CC)
 ORACLE_AND_ARCHIVE = target/oracle/oracle-and-archive
 endif
 CFLAGS = -std=c11 -Wall -Wextra -Wpedantic -Werror -O2 -Iinclude
-# The archive as hosts link it, what of it is proved, and the crates whose archives are joined in that.
+# The archive as hosts link it, what of it is proved, and the crates whose archives are joined in that: those that crates.txt marks.
 ARCHIVE = target/lib/liblumbixet.a
 PROVED = target/lib/proved.a
-EXPORTS = host host_codec host_codec_as host_report host_entry host_writer host_newest host_pieces host_tracker host_totals host_sent lent
-SOURCES = crates.txt $(shell find crates -name '*.rt' -o -name '*.antt')
+EXPORTS = $(shell sed -n 's/^\([a-z0-9_]*\) staticlib:.*/\1/p' crates.txt)
+SOURCES = crates.txt $(shell find crates -name out -prune -o \( -name '*.rt' -o -name '*.antt' \) -print)
 ORACLE = target/oracle/oracle
 # The command of the technical desk.
 COMMAND = target/command/lumbixet
@@ -41,7 +41,7 @@ PREFIX = /usr/local
 DESTDIR =
 
 help:
-	@echo 'make test     the gate: layout, documents, examples, comparisons, every proof, every must-fail edit, every program'
+	@echo 'make test     the gate: documents, every proof, every must-fail edit, every program, examples, comparisons'
 	@echo 'make run      prove the replay program and replay the bundled hearing: index, result and cause of each record'
 	@echo 'make picture  draw the bundled hearing and its answers as examples/hearing.svg, the bundled week as examples/week.svg, and the reports on a hearing'\''s objects as examples/objects.svg'
 	@echo "make week     prove the week's program and print the page of the bundled week"
@@ -61,6 +61,7 @@ help:
 	@echo 'make installed  try that under target/: two examples are built from there as a host does, and nothing is left'
 	@echo 'make readme   run the code and the commands of README.md as they are written there'
 	@echo 'make compare  compare the programs and the archive with a second implementation that was written from the papers'
+	@echo 'make refused  try each must-fail edit and hold what the check says of it to what the edit changes'
 	@echo 'make wrong    run each wrong answer that the gate tries: it must answer something else than the second implementation, and each harmless change the same'
 	@echo 'make bench    compare the archive with plain C and time both, and the replay program beside the second implementation; no time is judged'
 	@echo 'make speed    the same, and write the table of docs/SPEED.md from a run'
@@ -99,10 +100,10 @@ week: emulated
 
 archive: $(ARCHIVE)
 
-# Building it proves its crates again, so it is built only where a source is newer.
+# It is built only where a source is newer.
 $(PROVED): $(SOURCES) Makefile
-	@tools/kit
-	@set -e; for crate in $(EXPORTS); do rt staticlib $$crate; done
+	@[ -n '$(EXPORTS)' ] || { echo 'archive: crates.txt marks no crate as a static library'; exit 1; }
+	@tools/prove $(EXPORTS)
 	@mkdir -p target/lib
 	@rm -f $@ target/lib/joined.a
 	@{ echo create target/lib/joined.a; for crate in $(EXPORTS); do echo addlib target/staticlib/lib$$crate.a; done; echo save; echo end; } | $(AR) -M
@@ -292,10 +293,15 @@ compare: oracle
 	@$(ORACLE) relay | cmp - examples/relay.expected
 	@echo 'relay: examples/relay.expected is what it prints'
 
+# Each must-fail edit is tried once more, so that all that the check says of it is kept; where nothing is kept of a crate it is proved first.
+refused:
+	@tools/try-edits
+	@tools/check-edits --refused
+
 # The crates are built without a proof here, each time with one edit. On another processor the compilers are those for x86-64.
 wrong: emulated
-	@CC='$(CC)' RUST='$(RUST)' tools/run-wrong $(WRONG)
-	@CC='$(CC)' RUST='$(RUST)' tools/test-wrong
+	@RUST='$(RUST)' tools/run-wrong $(WRONG)
+	@RUST='$(RUST)' tools/test-wrong
 
 bench: oracle
 	@mkdir -p target/bench

@@ -152,11 +152,14 @@ fn compare_readers(random: &mut Random, tally: &mut Tally, bytes: &[u8]) -> Resu
     compare_read_frequency(tally, bytes)?;
     compare_read_immediate(tally, bytes)?;
     compare_read_ack(random, tally, bytes)?;
-    compare_readers_as(random, tally, bytes)
+    compare_readers_as(tally, bytes)
 }
 
-/// The type that stands there, or any.
-fn compare_readers_as(random: &mut Random, tally: &mut Tally, bytes: &[u8]) -> Result<(), String> {
+/// The type that stands there, or any. It draws by the bytes alone, so that what the other comparisons draw, and so come to see,
+/// is what it was without it.
+fn compare_readers_as(tally: &mut Tally, bytes: &[u8]) -> Result<(), String> {
+    let seed = bytes.iter().fold(bytes.len() as u64, |seed, byte| seed.wrapping_mul(257).wrapping_add(u64::from(*byte)));
+    let random = &mut Random::from_seed(seed);
     let (kind, next) = read(bytes, 0).map_or((0, 0), |number| (number.value, number.next));
     let kind = if random.chance(100) { random.one_of(&[0x02, 0x03, 0x1f, 0xaf, 0x40af, u64::MAX]) } else { kind };
     let behind = &bytes[next..];

@@ -22,10 +22,10 @@ LISTS = {
     ("crates/pieces/specs/Handing.antt", "Handed"),
     ("crates/pieces/specs/Later.antt", "later"),
     ("crates/pieces/specs/Sessions.antt", "Session"),
-    ("crates/log_laws/specs/Lines.antt", "linesOf"),
+    ("crates/log_laws/specs/Lines.antt", "lines_of"),
     ("crates/play/specs/Reads.antt", "answered"),
     ("crates/page/specs/Pieces.antt", "turns"),
-    ("crates/totals/specs/Sums.antt", "addedAll"),
+    ("crates/totals/specs/Sums.antt", "added_all"),
 }
 
 
@@ -44,16 +44,27 @@ class Register:
             self.faults += faults
 
 
+def theorems(row):
+    """What is proved for a row: the theorems that it names, and under "Proved:" the functions, whose contracts the toolchain proves."""
+    proved = next((part for part in row.cells[3].split("<br>") if part.startswith("Proved:")), "")
+    functions = {(path, short) for (path, _), short in sources.functions().items()}
+    return [link for link in row.links() if "/proofs/" in link.path] + [link for link in pages.links(row.page, proved) if (link.path, link.name) in functions]
+
+
+def led_by(links):
+    """The definitions to which these theorems and contracts lead."""
+    return set().union(*[sources.led_to(link.path, link.name) for link in links if link.named()])
+
+
 def cells(register):
     """Each kind is one of the four, what is proved names a theorem, over lists of calls where it says so, and plain words are short."""
     for row in register.rows:
         _, plain, kind, _ = row.cells
         if kind not in pages.KINDS:
             yield f'{row.at()}: "{kind}" is none of the four kinds'
-        if kind in pages.PROVED and not any("/proofs/" in link.path or link.path.endswith("functions.md") for link in row.links()):
+        if kind in pages.PROVED and not theorems(row) and not any(link.path.endswith("functions.md") for link in row.links()):
             yield f"{row.at()}: proved, and no theorem is named"
-        led = set().union(*[sources.led_to(link.path, link.name) for link in row.links() if "/proofs/" in link.path and link.named()])
-        if kind == "proved over all calls" and not led & LISTS:
+        if kind == "proved over all calls" and not led_by(theorems(row)) & LISTS:
             yield f"{row.at()}: proved over all calls, and no theorem speaks of a list of calls"
         if kind == "run and compared" and "Run:" not in row.cells[3]:
             yield f"{row.at()}: run and compared, and nothing is named that runs"
@@ -139,7 +150,7 @@ def statements(register):
     for row in register.rows:
         proved = next((part for part in row.cells[3].split("<br>") if part.startswith("Proved:")), "")
         links = pages.links(row.page, proved)
-        led = set().union(*[sources.led_to(link.path, link.name) for link in links if "/proofs/" in link.path and link.named()])
+        led = led_by([link for link in theorems(row) if link in links])
         for link in links:
             if "/specs/" in link.path and link.named() and (link.path, sources.enclosing(link.path, link.name)) not in led:
                 yield f"{row.at()}: no theorem of this row leads to {link.name}"
@@ -152,7 +163,7 @@ def touched(row):
     for link in row.links():
         if link.path.endswith(".rt"):
             functions |= {one for one, short in sources.functions().items() if one[0] == link.path and short == link.name}
-        elif link.path.endswith("/Proof.antt"):
+        elif "/proofs/" in link.path:
             functions |= {sources.proved_function(link.path)} - {None}
         if link.path.endswith(".antt"):
             for name in [link.name] if link.named() else sources.defined(link.path):

@@ -24,7 +24,7 @@ def one_result():
     """For each function, as crate and name, the theorems that say that its contract permits one result: those about its contract's `Post` or `clauses`."""
     found = {}
     for path in sorted(glob.glob("crates/*/proofs/*.antt")):
-        used = re.findall(r"^use Rattle·(\w+)(?:·\w+)?\.proofs\.([\w.]+?)(?:\.Reads)? as ([\w-]+)", sources.read(path), re.M)
+        used = re.findall(r"^use Rattle\.(\w+)\.(?:proofs|specs\.contracts)\.([\w.]+?)(?:\.Reads)? as ([\w-]+)", sources.read(path), re.M)
         for crate, module, alias in used:
             for name in sources.defined(path):
                 if re.search(rf"(?<![\w-]){re.escape(alias)}\.(?:Post|clauses)\b", sources.type_of(path, name)):
@@ -65,7 +65,8 @@ def functions_page():
         "",
         "Every public function of the libraries, made of the sources by `tools/check-register --write`. Its",
         "contract stands in its source, above its body; it speaks of the definitions that are named here.",
-        "None has a `requires`. Where no proof is named, the toolchain makes it by itself. That a contract",
+        "None has a `requires`. What is written of its proof is named: the answers to the prover's goals, and",
+        "what a loop keeps; where nothing is, the toolchain finds the proof by itself. That a contract",
         "permits one result alone is a theorem of its own; where none is named, the",
         "[exceptions](EXCEPTIONS.md) say why. A wrong answer changes the function itself, or what its",
         "contract speaks of, or else the nearest function that it calls.",
@@ -77,9 +78,8 @@ def functions_page():
             crate = path.split("/")[1]
             lines += ["", f"## {crate}", "", "| Function | Its contract speaks of | Proved | One result | Wrong answers |", "|---|---|---|---|---|"]
         said = [pages.place(FUNCTIONS, *one) for one in sorted(sources.contract(function)[0]) if one[1] in sources.defined(one[0])]
-        proof = f"crates/{crate}/proofs/{name.replace('::', '/')}/Proof.antt"
-        spec = f"{name.split('::')[-1].replace('_', '-')}-spec"
-        proved = pages.place(FUNCTIONS, proof, spec) if os.path.isfile(proof) else "by the toolchain"
+        proof = sources.touches.proof_files(f"crates/{crate}", name)
+        proved = ", ".join(pages.place(FUNCTIONS, path) for path in proof) or "by the toolchain"
         one = ", ".join(pages.place(FUNCTIONS, *theorem) for theorem in theorems(function)) or "an exception"
         wrong = ", ".join(pages.place(FUNCTIONS, *answer) for answer in guards(function)) or "none"
         lines.append(f"| {pages.place(FUNCTIONS, path, sources.functions()[function])} | {', '.join(said) or 'its arguments alone'} | {proved} | {one} | {wrong} |")

@@ -119,7 +119,7 @@ def crates_under():
     """For each crate, itself and the crates that it stands on."""
     under = {}
     for line in read("crates.txt").splitlines():
-        named = re.match(r"(\w+):(.*)", line)
+        named = re.match(r"(\w+)(?: [^:#]*)?:([^#]*)", line)
         if named:
             under[named[1]] = [named[1]] + named[2].split()
     return under
@@ -130,7 +130,7 @@ def callees(function):
     """The functions that a function's body calls, in its crate and in those that the crate stands on."""
     path, _ = function
     crate = path.split("/")[1]
-    brought = {name: above for above, name in re.findall(r"^use ((?:\w+::)*)(\w+);", read(path), re.M)}
+    brought = {name: above for above, names in re.findall(r"^use ((?:\w+::)*)([^;]*);", read(path), re.M) for name in re.findall(r"\w+", names)}
     found = set()
     for call in contract(function)[1]:
         above, _, name = call.rpartition("::")
@@ -164,8 +164,8 @@ def below(function):
 
 @functools.lru_cache(maxsize=None)
 def proved_function(path):
-    """The function whose proof a file is, crates/C/proofs/M/F/Proof.antt, or None."""
-    named = re.match(r"(crates/\w+)/proofs/(\S+)/Proof\.antt$", path)
+    """The function of whose proof a file is a part, crates/C/proofs/M/F/Answers.antt or another, or None."""
+    named = re.match(r"(crates/\w+)/proofs/(\S+)/(?:Answers|Invariants|Proof)\.antt$", path)
     name = named and named[2].replace("/", "::")
     return next((one for one in functions() if named and one[0].startswith(named[1] + "/src/") and one[1] == name), None)
 
@@ -202,7 +202,7 @@ def enclosing(path, name):
 @functools.lru_cache(maxsize=None)
 def led_to(path, name):
     """The definitions to which a theorem's statement leads, or a function's contract, or a definition, itself included."""
-    function = proved_function(path) if path.endswith("/Proof.antt") else None
+    function = proved_function(path)
     if path.endswith(".rt"):
         function = next((one for one, short in functions().items() if one[0] == path and short == name), None)
     if function:

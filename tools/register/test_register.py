@@ -112,8 +112,8 @@ class Found(unittest.TestCase):
 
     def test_example_is_no_proof_of_a_definition(self):
         longer = ("crates/wire/proofs/Examples.antt", "longer")
-        self.assertIn("readNumber", sources.type_of(*longer))
-        self.assertFalse(sources.states(longer, ("crates/wire/specs/Numbers.antt", "readNumber")))
+        self.assertIn("read_number", sources.type_of(*longer))
+        self.assertFalse(sources.states(longer, ("crates/wire/specs/Numbers.antt", "read_number")))
 
     def test_statement_of_the_same_name_elsewhere(self):
         told = ("crates/tracked/proofs/After.antt", "told")
@@ -134,7 +134,7 @@ class Found(unittest.TestCase):
         self.assertEqual(pages.with_lines(WEEK, re.sub(r"#L\d+\)", "#L1)", text)), text)
 
     def test_wrong_name_and_file(self):
-        self.assert_found(checks.places, altered(WEEK, "[linesFrom]", "[linesUpTo]"), "does not define linesUpTo")
+        self.assert_found(checks.places, altered(WEEK, "[lines_from]", "[lines_up_to]"), "does not define lines_up_to")
         self.assert_found(checks.places, altered(WEEK, "specs/Page.antt", "specs/Sheet.antt"), "does not exist")
         cell = cell_of(WEEK, "64 KiB")
         stray = "[unheard_of](../../crates/page/must-fail/wrong_answers_1.edit)"

@@ -5,7 +5,7 @@ import re
 import signal
 import time
 
-from wrong.build import BASE, ORACLE, PROGRAMS, WRITTEN, Stuck, call, compile_crate, link_program, touched, write
+from wrong.build import BASE, ORACLE, PROGRAMS, WRITTEN, Stuck, build_program, call, touched, write
 from wrong.edits import read
 
 # How long each comparison of the library as it is took, in how many rounds: an edit has some times as long.
@@ -51,11 +51,11 @@ def in_a_line(said):
     return f"{cut_short(call_made, 120)}: {place_of(papers, start)}{value_at(papers, start)} by the papers, {value_at(other, start)} here"
 
 
-def run_compare(name, words, rounds, folder, libraries):
+def run_compare(name, words, rounds, folder, libraries, limited=False):
     """The first difference that one comparison finds, or None."""
     began = time.time()
     try:
-        status, said = call([ORACLE, *words, str(rounds)], seconds_for(name, rounds), folder, libraries)
+        status, said = call([ORACLE, *words, str(rounds)], seconds_for(name, rounds), folder, libraries, limited=limited)
     except Stuck as stuck:
         return f"{name}: {stuck}"
     if folder == BASE:
@@ -69,21 +69,20 @@ def run_compare(name, words, rounds, folder, libraries):
 
 def compare_archive(folder, rounds):
     """The first call of the library in a folder whose answer is another one than the papers', or None."""
-    return run_compare("archive", ["compare-archive"], rounds, folder, folder)
+    return run_compare("archive", ["compare-archive"], rounds, folder, folder, limited=True)
 
 
-def compare_program(crate, folder, rounds):
-    """The first line of a program in a folder that is another one than the papers', or None."""
-    return run_compare(crate, [f"compare-{crate}", f"{folder}/{crate}"], min(rounds, 1700), folder, BASE)
+def compare_program(crate, words, folder, rounds):
+    """The first line of a program, run by these words, that is another one than the papers', or None."""
+    return run_compare(crate, [f"compare-{crate}", words], min(rounds, 1700), folder, BASE)
 
 
-def compare_written(sources, folder):
-    """The first example of the papers that comes out as another line with the edit, or None."""
-    for crate in touched(WRITTEN, sources):
-        compile_crate(crate, sources, folder)
-        link_program(crate, folder)
+def compare_written(texts, folder, built=None):
+    """The first example of the papers that comes out as another line with the edit, or None; `built` has the words of what is built already."""
+    for crate in built or touched(WRITTEN, texts):
+        words = built[crate] if built else build_program(crate, texts, folder)
         try:
-            lines = call([f"{folder}/{crate}"], 60, folder, BASE, output=True)[1].splitlines()
+            lines = call(words.split(), 60, folder, output=True)[1].splitlines()
         except Stuck as stuck:
             return f"{crate}: {stuck}"
         asked = read(f"crates/{crate}/stdout").splitlines()
@@ -95,6 +94,7 @@ def compare_written(sources, folder):
 
 def compare_base(rounds):
     """Compares the library as it is: it must not differ."""
-    programs = (compare_program(crate, BASE, rounds) for crate in PROGRAMS)
-    written = (compare_written({crate: f"crates/{crate}/src"}, BASE) for crate in WRITTEN)
+    words = {crate: read(f"{BASE}/{crate}.words") for crate in PROGRAMS + WRITTEN}
+    programs = (compare_program(crate, words[crate], BASE, rounds) for crate in PROGRAMS)
+    written = (compare_written({}, BASE, {crate: words[crate]}) for crate in WRITTEN)
     return next(filter(None, itertools.chain([compare_archive(BASE, rounds)], programs, written)), None)

@@ -56,10 +56,13 @@ def reader_of(path, text, place):
     return readers.pop() if len(readers) == 1 else None
 
 
-NAME = r"[^\W\d][\w'-]*"
+NAME = r"(?:◌|[^\W\d])[\w'◌-]*"
 HEAD = rf"^(?:(?:abbrev|unfoldable|pub|record|data) )*({NAME})(?= :| \()"
 LAW = rf"^ *(?:(?:abbrev|unfoldable|pub) )*({NAME})(?= :)"
-USE = r"^(?:ghost )?use Rattle·(\w+)(?:·\w+)?\.(specs|proofs)\.([\w.]+?)"
+USE = r"^(?:ghost )?use Rattle\.(\w+)\.(specs|proofs)\.([\w.]+?)"
+# What a function asks the prover to use or to unfold: crate::proofs::M::lemma, or a crate's name in place of `crate`.
+ASKED = r"\b(\w+)::(specs|proofs)::((?:\w+::)+)([\w'-]+)"
+CLAUSE = r"\s*(?:requires|ensures)\*?(?: \w+)? \{$"
 
 
 def file_of(crate, kind, module):
@@ -80,7 +83,9 @@ def known(path):
     found = {}
     for crate, kind, module, names in re.findall(rf"{USE}\.\{{([^}}]*)\}}", read(path), re.M):
         for name, other in re.findall(rf"({NAME})(?: as ({NAME}))?", names):
-            found[other or name] = (file_of(crate, kind, module), name)
+            # the kit's libraries, and the modules that the check makes of the code, have no file here
+            if os.path.isfile(file_of(crate, kind, module)):
+                found[other or name] = (file_of(crate, kind, module), name)
     if path.endswith(".antt"):
         own = LAW if "/proofs/" in path else HEAD
         found.update((name, (path, name)) for name in re.findall(own, read(path), re.M))
@@ -90,7 +95,8 @@ def known(path):
 @functools.lru_cache(maxsize=None)
 def modules(path):
     """The files that a file brings in whole, by the name that each has there: `use .. as name`."""
-    return {name: file_of(crate, kind, module) for crate, kind, module, name in re.findall(rf"{USE} as ({NAME});?$", read(path), re.M)}
+    brought = {name: file_of(crate, kind, module) for crate, kind, module, name in re.findall(rf"{USE} as ({NAME});?$", read(path), re.M)}
+    return {name: file for name, file in brought.items() if os.path.isfile(file)}
 
 
 def mentioned(text, path):
@@ -132,14 +138,29 @@ def contract_and_calls(path, text, function):
     """What a function's contract mentions, and what its code calls: a name, with its type or module where the code says it."""
     start, end = next((at, after) for (at, name), (after, _) in zip(functions(path, text), functions(path, text)[1:]) if name == function)
     lines = text[start:end].splitlines()
-    body = next(i for i, line in enumerate(lines) if line.endswith("{") or line.strip() == "{}")
+    body = next(i for i, line in enumerate(lines) if line.strip() == "{}" or (line.endswith("{") and not re.match(CLAUSE, line)))
     return mentioned("\n".join(lines[:body]), path), set(re.findall(r"((?:\w+::)?\w+)\(", "\n".join(lines[body:])))
 
 
-def proof_of(crate, function):
-    """What a function's own proof mentions."""
-    path = f"{crate}/proofs/{function.replace('::', '/')}/Proof.antt"
-    return mentioned(re.sub(r"(?m)^(?:use .*| *--.*)$", "", read(path)), path) if os.path.isfile(path) else set()
+def proof_files(crate, function):
+    """What is written of a function's proof; there may be none."""
+    return sorted(glob.glob(f"{crate}/proofs/{function.replace('::', '/')}/*.antt"))
+
+
+def asked_above(path, text, function):
+    """What the attributes above a function ask the prover to use or to unfold."""
+    start = next(at for at, name in functions(path, text) if name == function)
+    above = re.search(r"(?:^#\[[^\n]*\n(?:[ \t)\]][^\n]*\n)*|^\s*//[^\n]*\n)*\Z", text[:start], re.M)[0]
+    own = path.split("/")[1]
+    return {(file_of(own if crate == "crate" else crate, kind, module[:-2].replace("::", ".")), name) for crate, kind, module, name in re.findall(ASKED, above)}
+
+
+def proof_of(source, function):
+    """What a function's own proof mentions: its files, and what the attributes above the function name."""
+    found = asked_above(source, read(source), function)
+    for path in proof_files(source.split("/src/")[0], function):
+        found |= mentioned(re.sub(r"(?m)^(?:use .*| *--.*)$", "", read(path)), path)
+    return found
 
 
 def defined_at(path, text, place):
@@ -175,11 +196,11 @@ def causes(edit, found):
     crate, told = edit.split("/must-fail/")[0], {}
     for source in sorted(glob.glob(f"{crate}/src/*.rt")):
         for function in {name for at, name in functions(source, read(source)) if name}:
-            told[function] = contract_and_calls(source, read(source), function)
+            told[function] = (*contract_and_calls(source, read(source), function), proof_of(source, function))
     touched = {}
-    for function, (own, calls) in told.items():
-        called = set().union(*[contract for name, (contract, _) in told.items() if calls & {name, name.split("::")[-1]}])
-        leads = reached(own | called | proof_of(crate, function)) | {function}
+    for function, (own, calls, proof) in told.items():
+        called = set().union(*[contract for name, (contract, _, _) in told.items() if calls & {name, name.split("::")[-1]}])
+        leads = reached(own | called | proof) | {function}
         touched[function] = {name for name, changes in found.items() if changes & leads}
     return touched
 
