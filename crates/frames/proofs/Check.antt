@@ -64,7 +64,10 @@ by_header cut other f HeaderEnds = cut
 by_header cut other f HeaderOther = other
 by_header cut other f (Numbers largest delay count at counted) = f at largest delay count counted
 
-by_one : (s xs : List ℕ) (h : Header) → after_header s h xs ≡ by_header (refused Cut xs) (refused OtherType xs) (reads_on s xs) h
+abbrev pub read_after : List ℕ → List ℕ → Header → AckRead
+read_after s xs h = by_header (refused Cut xs) (refused OtherType xs) (λ at largest delay count counted. read_ranges s at largest delay count counted xs) h
+
+by_one : (s xs : List ℕ) (h : Header) → after_header s h xs ≡ read_after s xs h
 by_one s xs HeaderEnds = refl
 by_one s xs HeaderOther = refl
 by_one s xs (Numbers largest delay count at counted) = refl
@@ -93,10 +96,7 @@ header-first {R} s cut other f =
 pub read-on : (s xs : List ℕ) {h v : Header} → h ≡ v → after_header s v xs ≡ after_header s h xs
 read-on s xs t = ap (λ (w : Header). after_header s w xs) (sym t)
 
--- the reader's answer is what its header leads to, where it reads the type and where it is handed it
-pub read_by : (s xs : List ℕ) {h : Header} → h ≡ read_header s → after_header s h xs ≡ read_ack s xs
-read_by s xs e = read-on s xs (sym e) ∙ by_one s xs (read_header s) ∙ sym (header-first s (refused Cut xs) (refused OtherType xs) (reads_on s xs))
-
+-- the reader's answer is what its header leads to, where it is handed the type
 pub read-by-as : (kind : ℕ) (s xs : List ℕ) {h : Header} → h ≡ read_header_as kind s → after_header s h xs ≡ read_ack_as kind s xs
 read-by-as kind s xs e =
     read-on s xs (sym e)
@@ -119,6 +119,13 @@ module _ (s : List ℕ) {h : Header} (e : h ≡ read_header s) where
   pub checked-walk : {largest delay count at : ℕ} {counted : Bool} → h ≡ Numbers largest delay count at counted → {w : Walk} {r : Checked} → w ≡ (ranges_from count s at largest).walk
       → r ≡ checked_rest at largest delay count (read_rest counted s w) → r ≡ check_ack s
   checked-walk {largest} {delay} {count} {at} {counted} t d f = f ∙ ap (λ (v : Walk). checked_rest at largest delay count (read_rest counted s v)) d ∙ checked-by t
+
+  pub read_by : (xs : List ℕ) {v : Header} → h ≡ v → read_after s xs v ≡ read_ack s xs
+  read_by xs t = ap (read_after s xs) (sym t ∙ e) ∙ sym (header-first s (refused Cut xs) (refused OtherType xs) (λ at largest delay count counted. read_ranges s at largest delay count counted xs))
+
+  -- and where it reads it
+  pub read-by-header : (xs : List ℕ) → after_header s h xs ≡ read_ack s xs
+  read-by-header xs = by_one s xs h ∙ read_by xs refl
 
 -- ---- the ranges one by one
 
