@@ -43,7 +43,7 @@ def defined(path):
                 keep(name[1], number, 0)
         elif path.endswith(".rt"):
             if line.startswith("impl "):
-                kind = line.split()[1]
+                kind = touches.kind_of(line)
             elif line.startswith("}"):
                 kind = ""
             name = re.match(r'\s*(?:pub(?:\(crate\))? )?(?:extern "C" )?(?:fn|const|struct|enum) (\w+)', line)
@@ -84,6 +84,17 @@ def states(theorem, statement):
 # ---- functions, each as (file, name), the name as the prover has it: Type::name, module::name, or name in lib and main
 
 
+def written(path, name):
+    """A function's name as its file has it, from the one that the prover has."""
+    parts = name.split("::")
+    parts = parts[1:] if len(parts) > 1 and parts[0] == os.path.basename(path)[:-3] else parts
+    short = "::".join(parts)
+    if short in defined(path):
+        return short
+    # of a trait's impl the prover's name begins with the type's
+    return next((one for one in defined(path) if "::" in one and one.split("::")[1] == parts[-1] and short.startswith(one.split("::")[0])), short)
+
+
 @functools.lru_cache(maxsize=None)
 def functions():
     """All functions of the crates: (file, name) with the name as it is written in the file."""
@@ -91,7 +102,7 @@ def functions():
     for path in sorted(glob.glob("crates/*/src/*.rt")):
         for _, name in touches.functions(path, read(path)):
             if name:
-                found[path, name] = name.split("::")[-1] if name.split("::")[0] == os.path.basename(path)[:-3] else name
+                found[path, name] = written(path, name)
     return found
 
 

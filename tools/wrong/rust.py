@@ -3,6 +3,7 @@
 import re
 
 CLAUSE = re.compile(r"^[ \t]*(?:requires|ensures)\*?(?: \w+)? \{", re.M)
+GHOST_MEMBER = re.compile(r"^[ \t]*(?:pub )?ghost \w+(?: =|:) \{", re.M)
 GHOST_USE = re.compile(r"^ghost use [^;]*;", re.M)
 # What is spelled otherwise in Rust: the kit's function of two numbers is a method of the number there; the prover's attributes are nothing.
 SPELLED = [
@@ -31,10 +32,12 @@ def as_rust(text):
     """The code of a source file, without its contracts."""
     for found in reversed(list(GHOST_USE.finditer(text))):
         text = blank(text, *found.span())
-    found = CLAUSE.search(text)
-    while found:
-        text = blank(text, found.start(), closing(text, found.end() - 1))
-        found = CLAUSE.search(text)
+    # A member ends in a semicolon in an impl, and in a comma in a struct.
+    for part, behind in ((CLAUSE, 0), (GHOST_MEMBER, 1)):
+        found = part.search(text)
+        while found:
+            text = blank(text, found.start(), closing(text, found.end() - 1) + behind)
+            found = part.search(text)
     for kit, rust in SPELLED:
         text = kit.sub(rust, text)
     return text

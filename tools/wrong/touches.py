@@ -20,13 +20,27 @@ def answers(edit):
     return [(answer.name.split("/")[1], answer.pairs) for answer in named_answers(edit)]
 
 
+def kind_of(line):
+    """The type that an impl is of, a trait's too."""
+    return re.sub(r"[<{].*", "", line.split(" for ")[-1].removeprefix("impl ")).strip()
+
+
+def proved_kind(line, module):
+    """What the prover calls an impl: a type, or for `impl From<u64> for Mark` in given.rt given::MarkFromU64."""
+    trait = re.match(r"impl (\w+)(?:<(\w+)>)? for (\w+)", line)
+    if not trait:
+        return kind_of(line)
+    of = trait[2] or ""
+    return ("" if module in ("lib", "main") else f"{module}::") + trait[3] + trait[1] + of[:1].upper() + of[1:]
+
+
 def functions(path, text):
     """Where each function of a source file begins, and its name as the prover has it: Type::name, or module::name."""
     module = os.path.basename(path)[:-3]
     kind, at, found = "", 0, []
     for line in text.splitlines(keepends=True):
         if line.startswith("impl "):
-            kind = line.split()[1]
+            kind = proved_kind(line, module)
         elif line.startswith("}"):
             kind = ""
             found.append((at + 1, None))

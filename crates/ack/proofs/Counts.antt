@@ -8,15 +8,14 @@ use native.Mathlib.Nat.{add-zero, zero-add}
 use native.Mathlib.Omega.{arith}
 use borrow.Author.Tests.{leb-true, leb-false}
 use lib.ListN.{length, length-append, take-append-drop}
+use Rattle.std.specs.Prelude.{Option, Some, None, Result, Ok}
 use Rattle.wire.specs.Bytes.{pick, splice}
 use Rattle.wire.specs.Numbers.{limit, width_of, encode_all, all_small, put_answer, put_bytes}
-use Rattle.wire.specs.declared.Put.{Put}
-use Rattle.wire.specs.declared.Put.TheVariants.{Done}
+use Rattle.wire.specs.declared.Refusal.{Refusal}
 use Rattle.wire.proofs.Bytes.{splice-splice}
 use Rattle.wire.proofs.Small.{all_small_lem}
 use Rattle.wire.proofs.Writing.{placed-yes, put_small}
-use Rattle.frames.specs.declared.Tail.{Tail}
-use Rattle.frames.specs.declared.Tail.TheVariants.{Nothing, Counts}
+use Rattle.frames.specs.declared.Counts.{Counts}
 use Rattle.frames.specs.Ack.{type_of, counts_of}
 use Rattle.seen.specs.declared.Seen.{Seen}
 use Rattle.seen.specs.Numbers.{small}
@@ -26,23 +25,23 @@ use Rattle.ack.proofs.Fitting.{bytes_next, bytes-none, bytes_of, frame-parts, ta
 
 -- ---- the ranges that are kept
 
-module _ {s : Seen} (b : Begun s) (delay : ℕ) (d : delay ≤ limit) (tail : Tail) where
+module _ {s : Seen} (b : Begun s) (delay : ℕ) (d : delay ≤ limit) (tail : Option Counts) where
   -- a frame with counts is the one without them, and the counts
   longer-by : (k : ℕ) → 0 < k → k ≤ number_of_ranges s
-      → (length (frame s tail delay k) ≡ length (frame s Nothing delay k) + bytes_of tail) × (0 < length (frame s Nothing delay k))
+      → (length (frame s tail delay k) ≡ length (frame s None delay k) + bytes_of tail) × (0 < length (frame s None delay k))
   longer-by k h l =
       let e : k ≡ suc (k - 1) = omega arith in
       let f = ap (λ (x : ℕ). length (frame s tail delay x)) e in
-      let g = ap (λ (x : ℕ). length (frame s Nothing delay x)) e in
+      let g = ap (λ (x : ℕ). length (frame s None delay x)) e in
       let m = tail-length b delay d tail (k - 1) (omega arith) in
       let n = frame-length b delay d (k - 1) (omega arith) in
       (omega arith, omega arith)
 
-  pub kept_less : (room : ℕ) → ranges_kept s tail delay room ≡ ranges_kept s Nothing delay (room - bytes_of tail)
+  pub kept_less : (room : ℕ) → ranges_kept s tail delay room ≡ ranges_kept s None delay (room - bytes_of tail)
   kept_less room =
       let c = kept-says s tail delay room in
       let n : ℕ = ranges_kept s tail delay room in
-      kept-is s Nothing delay (room - bytes_of tail) n c.within
+      kept-is s None delay (room - bytes_of tail) n c.within
       (λ h. omega (arith, (longer-by n h c.within).0, leb-true (length (frame s tail delay n)) room (c.holds h)))
       (λ j i k.
       let l = longer-by j (omega arith) k in
@@ -50,7 +49,7 @@ module _ {s : Seen} (b : Begun s) (delay : ℕ) (d : delay ≤ limit) (tail : Ta
 
 -- ---- a tail by its cases: e is what the code knows of it
 
-module _ {tail : Tail} (e : tail ≡ Nothing) where
+module _ {tail : Option Counts} (e : tail ≡ None) where
   pub none-obeys : true ≡ all_small (counts_of tail)
   unfolding all_small
   none-obeys = rw e
@@ -63,7 +62,7 @@ module _ {tail : Tail} (e : tail ≡ Nothing) where
   unfolding encode_all
   none-put xs at = rw (e, add-zero) (refl, sym (take-append-drop at xs))
 
-module _ {tail : Tail} {ect0 ect1 ce : ℕ} (e : tail ≡ Counts ect0 ect1 ce) where
+module _ {tail : Option Counts} {ect0 ect1 ce : ℕ} (e : tail ≡ Some (record { ect0 = ect0; ect1 = ect1; ce = ce })) where
   -- 5, count by count
   pub first-breaks : small ect0 ≡ false → false ≡ all_small (counts_of tail)
   unfolding all_small
@@ -98,11 +97,11 @@ module _ {tail : Tail} {ect0 ect1 ce : ℕ} (e : tail ≡ Counts ect0 ect1 ce) w
       three-room : at + length (encode_all (ect0 ∷ ect1 ∷ ce ∷ [])) ≤ length xs
       three-room = rw e at room
 
-      pub three-done : {r : Put} → r ≡ put_answer xs at (ect0 ∷ ect1 ∷ ce ∷ []) → r ≡ Done (at + length (encode_all (ect0 ∷ ect1 ∷ ce ∷ [])))
+      pub three-done : {r : Result ℕ Refusal} → r ≡ put_answer xs at (ect0 ∷ ect1 ∷ ce ∷ []) → r ≡ Ok (at + length (encode_all (ect0 ∷ ect1 ∷ ce ∷ [])))
       three-done f =
           f ∙ sym ((placed-yes xs at (encode_all (ect0 ∷ ect1 ∷ ce ∷ [])) three-room).0 ∙ (put_small xs at (ect0 ∷ ect1 ∷ ce ∷ []) three-obey).0)
 
-      pub three-put : {r : Put} {next : ℕ} {ys : List ℕ} → r ≡ put_answer xs at (ect0 ∷ ect1 ∷ ce ∷ []) → r ≡ Done next → ys ≡ put_bytes xs at (ect0 ∷ ect1 ∷ ce ∷ [])
+      pub three-put : {r : Result ℕ Refusal} {next : ℕ} {ys : List ℕ} → r ≡ put_answer xs at (ect0 ∷ ect1 ∷ ce ∷ []) → r ≡ Ok next → ys ≡ put_bytes xs at (ect0 ∷ ect1 ∷ ce ∷ [])
           → (next ≡ at + bytes_of tail) × (ys ≡ splice xs at (encode_all (counts_of tail)))
       three-put {next = next} f g h =
           let i = three-done f in
@@ -110,7 +109,7 @@ module _ {tail : Tail} {ect0 ect1 ce : ℕ} (e : tail ≡ Counts ect0 ect1 ce) w
           rw e (n, h ∙ sym ((placed-yes xs at (encode_all (ect0 ∷ ect1 ∷ ce ∷ [])) three-room).1 ∙ (put_small xs at (ect0 ∷ ect1 ∷ ce ∷ []) three-obey).1))
 
 -- after what comes before them they make the frame
-pub whole-frame : (s : Seen) (tail : Tail) (delay k : ℕ) (xs : List ℕ) {ys zs : List ℕ} {m n : ℕ} → length (frame s tail delay k) ≤ length xs
+pub whole-frame : (s : Seen) (tail : Option Counts) (delay k : ℕ) (xs : List ℕ) {ys zs : List ℕ} {m n : ℕ} → length (frame s tail delay k) ≤ length xs
     → m ≡ length (body s (type_of tail) delay k) → ys ≡ splice xs 0 (body s (type_of tail) delay k)
     → n ≡ m + bytes_of tail → zs ≡ splice ys m (encode_all (counts_of tail))
     → (n ≡ length (frame s tail delay k)) × (zs ≡ splice xs 0 (frame s tail delay k))

@@ -9,11 +9,11 @@ use native.Mathlib.Omega.{arith}
 use mathlib.Core.Logic.{⊎_elim}
 use borrow.Author.Tests.{le-leb, lt-leb}
 use lib.ListN.{length, take, length-append, length-take}
+use Rattle.std.specs.Prelude.{Option, Some, None}
 use Rattle.wire.specs.Numbers.{limit, code_of, width_of, first_from, encode_all}
 use Rattle.wire.proofs.Lengths.{split, small-code, code_fits, width-found, width-least, width-le, width-pos}
 use Rattle.wire.proofs.Writing.{length-encode, encode-append}
-use Rattle.frames.specs.declared.Tail.{Tail}
-use Rattle.frames.specs.declared.Tail.TheVariants.{Nothing, Counts}
+use Rattle.frames.specs.declared.Counts.{Counts}
 use Rattle.frames.specs.Ack.{range_numbers, type_of, counts_of}
 use Rattle.frames.proofs.Back.{type-small}
 use Rattle.seen.specs.declared.Seen.{Seen}
@@ -39,10 +39,10 @@ pub bytes-none : length (encode_all []) ≡ 0
 unfolding encode_all
 bytes-none = refl
 
-type-byte : (tail : Tail) → width_of (type_of tail) ≡ 1
+type-byte : (tail : Option Counts) → width_of (type_of tail) ≡ 1
 unfolding width_of first_from
-type-byte Nothing = refl
-type-byte (Counts ect0 ect1 ce) = refl
+type-byte None = refl
+type-byte (Some counts) = refl
 
 zero-byte : width_of 0 ≡ 1
 unfolding width_of first_from
@@ -87,19 +87,19 @@ abbrev pub bytes_below : Seen → ℕ → ℕ → ℕ
 bytes_below s n p = length (encode_all (fields s n p))
 
 -- the bytes of a tail's counts
-abbrev pub bytes_of : Tail → ℕ
+abbrev pub bytes_of : Option Counts → ℕ
 bytes_of tail = length (encode_all (counts_of tail))
 
 -- the frame is what comes before its counts, and the counts
-pub frame-parts : (s : Seen) (tail : Tail) (delay k : ℕ) → frame s tail delay k ≡ body s (type_of tail) delay k ++ encode_all (counts_of tail)
+pub frame-parts : (s : Seen) (tail : Option Counts) (delay k : ℕ) → frame s tail delay k ≡ body s (type_of tail) delay k ++ encode_all (counts_of tail)
 unfolding frame body
 frame-parts s tail delay k = encode-append (range_numbers (type_of tail) delay (take (2 * k) (ranges s))) (counts_of tail)
 
-pub parts-length : (s : Seen) (tail : Tail) (delay k : ℕ) → length (frame s tail delay k) ≡ length (body s (type_of tail) delay k) + bytes_of tail
+pub parts-length : (s : Seen) (tail : Option Counts) (delay k : ℕ) → length (frame s tail delay k) ≡ length (body s (type_of tail) delay k) + bytes_of tail
 parts-length s tail delay k = rw (frame-parts, length-append)
 
 module _ {s : Seen} (b : Begun s) (delay : ℕ) (d : delay ≤ limit) where
-  pub tail-length : (tail : Tail) (k : ℕ) → k < number_of_ranges s → length (frame s tail delay (suc k)) ≡ width_of k + (base s delay + bytes_below s k (low s 1024)) + bytes_of tail
+  pub tail-length : (tail : Option Counts) (k : ℕ) → k < number_of_ranges s → length (frame s tail delay (suc k)) ≡ width_of k + (base s delay + bytes_below s k (low s 1024)) + bytes_of tail
   unfolding body
   tail-length tail k h =
       let l = first-size b in
@@ -111,8 +111,8 @@ module _ {s : Seen} (b : Begun s) (delay : ℕ) (d : delay ≤ limit) where
       parts-length s tail delay (suc k) ∙ ap (λ (vs : List ℕ). length (encode_all vs) + bytes_of tail) (body-numbers b (type_of tail) delay k h) ∙ ap (λ (x : ℕ). x + bytes_of tail) n
 
   -- without counts
-  pub frame-length : (k : ℕ) → k < number_of_ranges s → length (frame s Nothing delay (suc k)) ≡ width_of k + (base s delay + bytes_below s k (low s 1024))
-  frame-length k h = omega (arith, tail-length Nothing k h, bytes-none)
+  pub frame-length : (k : ℕ) → k < number_of_ranges s → length (frame s None delay (suc k)) ≡ width_of k + (base s delay + bytes_below s k (low s 1024))
+  frame-length k h = omega (arith, tail-length None k h, bytes-none)
 
   -- a range more
   pub bytes-more : (n p : ℕ) → Bottom s p → 0 < top s p
@@ -123,7 +123,7 @@ module _ {s : Seen} (b : Begun s) (delay : ℕ) (d : delay ≤ limit) where
       rw (fields-some s b n p u h, bytes_next (missing s p - 1) _ (omega (arith, u.below)), bytes_next (size s p - 1) _ (omega (arith, u.below)))
 
   -- no frame is shorter than the one with the first range only
-  pub first-shortest : (tail : Tail) (k : ℕ) → 0 < k → k ≤ number_of_ranges s → length (frame s tail delay 1) ≤ length (frame s tail delay k)
+  pub first-shortest : (tail : Option Counts) (k : ℕ) → 0 < k → k ≤ number_of_ranges s → length (frame s tail delay 1) ≤ length (frame s tail delay k)
   first-shortest tail k h l =
       let e : k ≡ suc (k - 1) = omega arith in
       let f = few-ranges s in
@@ -162,7 +162,7 @@ largest-says test (suc all) =
     rw (largest_where, t)
     (record { holds = r.holds; within = omega (arith, r.within); above = λ j h l. ⊎_elim (λ e. ap test e ∙ t) (λ g. r.above j h (omega arith)) (eq-or-lt_of_le l) }))
 
-module _ (s : Seen) (tail : Tail) (delay room : ℕ) where
+module _ (s : Seen) (tail : Option Counts) (delay room : ℕ) where
   pub kept-says : Largest (fits s tail delay room) (ranges_kept s tail delay room) (number_of_ranges s)
   unfolding ranges_kept
   kept-says = largest-says (fits s tail delay room) (number_of_ranges s)
@@ -186,14 +186,14 @@ pub record Counted (s : Seen) (delay room p bytes count : ℕ) : Type 0 where
 
 module _ {s : Seen} (b : Begun s) (delay room : ℕ) (d : delay ≤ limit) where
   -- not even the first fits
-  pub count_none : room < base s delay + 1 → 0 ≡ ranges_kept s Nothing delay room
+  pub count_none : room < base s delay + 1 → 0 ≡ ranges_kept s None delay room
   count_none h =
-      kept-is s Nothing delay room 0 (omega arith) (λ i. absurd (omega arith))
+      kept-is s None delay room 0 (omega arith) (λ i. absurd (omega arith))
       (λ j i k.
       let e : j ≡ suc (j - 1) = omega arith in
       let f = few-ranges s in
       let w = width-pos (j - 1) (omega arith) in
-      omega (arith, ap (λ (x : ℕ). length (frame s Nothing delay x)) e, frame-length b delay d (j - 1) (omega arith)))
+      omega (arith, ap (λ (x : ℕ). length (frame s None delay x)) e, frame-length b delay d (j - 1) (omega arith)))
 
   pub count-first : base s delay + 1 ≤ room → Counted s delay room (low s 1024) (base s delay) 1
   count-first h =
@@ -208,33 +208,33 @@ module _ {s : Seen} (b : Begun s) (delay room : ℕ) (d : delay ≤ limit) where
       }
 
   module _ {p bytes count : ℕ} (c : Counted s delay room p bytes count) where
-    pub counted-fits : length (frame s Nothing delay count) ≤ room
+    pub counted-fits : length (frame s None delay count) ≤ room
     counted-fits =
         let e : count ≡ suc (count - 1) = omega (arith, c.some) in
         let z : count - 1 + 0 ≡ count - 1 = omega arith in
         let n : bytes_below s 0 p ≡ 0 = rw (fields-zero s p) bytes-none in
         let r = c.rest in
         let i = c.fit in
-        omega (arith, ap (λ (x : ℕ). length (frame s Nothing delay x)) e, frame-length b delay d (count - 1) (omega (arith, c.some)), c.sum 0, ap (λ (x : ℕ). bytes_below s x (low s 1024)) z)
+        omega (arith, ap (λ (x : ℕ). length (frame s None delay x)) e, frame-length b delay d (count - 1) (omega (arith, c.some)), c.sum 0, ap (λ (x : ℕ). bytes_below s x (low s 1024)) z)
 
     -- no range is left
-    pub count-all : top s p ≡ 0 → count ≡ ranges_kept s Nothing delay room
+    pub count-all : top s p ≡ 0 → count ≡ ranges_kept s None delay room
     count-all e =
         let n = ap length (down-none s p e) in
         let r = c.rest in
-        kept-is s Nothing delay room count (omega arith) (λ h. counted-fits) (λ j i k. absurd (omega arith))
+        kept-is s None delay room count (omega arith) (λ h. counted-fits) (λ j i k. absurd (omega arith))
 
     -- the next does not fit, so none with more ranges does
-    pub count-full : 0 < top s p → room < bytes + width_of (missing s p - 1) + width_of (size s p - 1) + width_of count → count ≡ ranges_kept s Nothing delay room
+    pub count-full : 0 < top s p → room < bytes + width_of (missing s p - 1) + width_of (size s p - 1) + width_of count → count ≡ ranges_kept s None delay room
     count-full h g =
         let r = c.rest in
-        kept-is s Nothing delay room count (omega arith) (λ i. counted-fits)
+        kept-is s None delay room count (omega arith) (λ i. counted-fits)
         (λ j i k.
         let e : j ≡ suc (j - 1) = omega arith in
         let f = few-ranges s in
         let x : count - 1 + suc (j - 1 - count) ≡ j - 1 = omega (arith, c.some) in
         omega
-        (arith, ap (λ (x : ℕ). length (frame s Nothing delay x)) e, frame-length b delay d (j - 1) (omega arith), width-grows count (j - 1) (omega arith) (omega arith), c.sum (suc (j - 1 - count)), ap (λ (x : ℕ). bytes_below s x (low s 1024)) x, bytes-more b delay d (j - 1 - count) p c.at h))
+        (arith, ap (λ (x : ℕ). length (frame s None delay x)) e, frame-length b delay d (j - 1) (omega arith), width-grows count (j - 1) (omega arith) (omega arith), c.sum (suc (j - 1 - count)), ap (λ (x : ℕ). bytes_below s x (low s 1024)) x, bytes-more b delay d (j - 1 - count) p c.at h))
 
     -- the next fits too
     pub count_next : 0 < top s p → bytes + width_of (missing s p - 1) + width_of (size s p - 1) + width_of count ≤ room
@@ -271,7 +271,7 @@ module _ {s : Seen} (b : Begun s) {delay room : ℕ} (d : delay ≤ limit) {p by
       size-bytes : w₂ ≡ width_of (size s p - 1)
       size-bytes = e₂ ∙ ap (λ (x : ℕ). width_of (x - 1)) f
 
-      pub no-more-fit : room < bytes + w₁ + w₂ + w₃ → count ≡ ranges_kept s Nothing delay room
+      pub no-more-fit : room < bytes + w₁ + w₂ + w₃ → count ≡ ranges_kept s None delay room
       no-more-fit h = count-full b delay room d c some_more (omega (arith, gap-bytes, size-bytes))
 
       pub one-more-fits : bytes + w₁ + w₂ + w₃ ≤ room → Counted s delay room (p - m - z) (bytes + w₁ + w₂) (count + 1)

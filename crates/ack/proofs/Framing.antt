@@ -9,12 +9,12 @@ use native.Mathlib.Omega.{arith}
 use borrow.Author.Tests.{leb-true}
 use lib.ListN.{length, take, drop, length-append, length-take}
 use lib.Seq.{take-take, take-append-le, drop-drop, drop_at, length-take-le}
+use Rattle.std.specs.Prelude.{Option, Some, None}
 use Rattle.wire.specs.Bytes.{splice}
 use Rattle.wire.specs.Numbers.{limit, width_of, encode, encode_all, put_bytes}
 use Rattle.wire.proofs.Bytes.{splice-splice}
 use Rattle.wire.proofs.Writing.{length-encode, one-splice}
-use Rattle.frames.specs.declared.Tail.{Tail}
-use Rattle.frames.specs.declared.Tail.TheVariants.{Nothing, Counts}
+use Rattle.frames.specs.declared.Counts.{Counts}
 use Rattle.frames.specs.Ack.{type_of}
 use Rattle.seen.specs.declared.Seen.{Seen}
 use Rattle.ack.specs.Ack.{number_of_ranges, frame, body, ranges_kept}
@@ -76,51 +76,51 @@ module _ (kind largest delay : ℕ) (k : kind < 64) (l : largest ≤ limit) (d :
 
 -- ---- the whole
 
-pub type-byte : (tail : Tail) → type_of tail < 64
-type-byte Nothing = omega arith
-type-byte (Counts ect0 ect1 ce) = omega arith
+pub type-byte : (tail : Option Counts) → type_of tail < 64
+type-byte None = omega arith
+type-byte (Some counts) = omega arith
 
 module _ {s : Seen} (b : Begun s) {delay : ℕ} (d : delay ≤ limit) where
-  pub frame-first : length (frame s Nothing delay 1) ≡ 1 + base s delay
+  pub frame-first : length (frame s None delay 1) ≡ 1 + base s delay
   frame-first =
       let r = first_rest b in
       let n : bytes_below s 0 (low s 1024) ≡ 0 = rw (fields-zero s (low s 1024)) bytes-none in
       omega (arith, frame-length b delay d 0 (omega arith), one_width 0 (omega arith))
 
-  pub first-is-room : {z w₁ w₂ w₃ : ℕ} → z ≡ size s 1024 → w₁ ≡ width_of (s.end - 1) → w₂ ≡ width_of delay → w₃ ≡ width_of (z - 1) → 2 + w₁ + w₂ + w₃ ≡ length (frame s Nothing delay 1)
+  pub first-is-room : {z w₁ w₂ w₃ : ℕ} → z ≡ size s 1024 → w₁ ≡ width_of (s.end - 1) → w₂ ≡ width_of delay → w₃ ≡ width_of (z - 1) → 2 + w₁ + w₂ + w₃ ≡ length (frame s None delay 1)
   first-is-room e e₁ e₂ e₃ = omega (arith, frame-first, e₃ ∙ ap (λ (x : ℕ). width_of (x - 1)) e)
 
   -- the first range fits or does not
-  pub first-kept : {room : ℕ} → length (frame s Nothing delay 1) ≤ room → ranges_kept s Nothing delay room ≡ 0 → ⊥
+  pub first-kept : {room : ℕ} → length (frame s None delay 1) ≤ room → ranges_kept s None delay room ≡ 0 → ⊥
   first-kept {room} h z = let c = counted-kept b d (count-first b delay room d (omega (arith, frame-first))) in omega arith
 
-  pub none_kept : {room : ℕ} → room < length (frame s Nothing delay 1) → 0 ≡ ranges_kept s Nothing delay room
+  pub none_kept : {room : ℕ} → room < length (frame s None delay 1) → 0 ≡ ranges_kept s None delay room
   none_kept {room} h = count_none b delay room d (omega (arith, frame-first))
 
   -- K ranges fit, and the field of the range count is no wider than theirs
-  module _ {room most : ℕ} (f : Field s delay room most) (h : length (frame s Nothing delay 1) ≤ room) where
+  module _ {room most : ℕ} (f : Field s delay room most) (h : length (frame s None delay 1) ≤ room) where
     pub head-fits : base s delay + width_of most ≤ room
     head-fits =
-        let k : ℕ = ranges_kept s Nothing delay room in
-        let v = kept-says s Nothing delay room in
+        let k : ℕ = ranges_kept s None delay room in
+        let v = kept-says s None delay room in
         let few = few-ranges s in
         ⊎_elim (λ q. omega (arith, ap width_of q, one_width 63 (omega arith), frame-first))
         (λ q.
         let j : k ≡ suc (k - 1) = omega (arith, q.1) in
         omega
-        (arith, ap width_of q.0, two-width 16383 (omega arith) (omega arith), two-width (k - 1) (omega (arith, q.1)) (omega (arith, v.within)), leb-true (length (frame s Nothing delay k)) room (v.holds (omega (arith, q.1))), ap (λ (x : ℕ). length (frame s Nothing delay x)) j, frame-length b delay d (k - 1) (omega (arith, v.within, q.1))))
+        (arith, ap width_of q.0, two-width 16383 (omega arith) (omega arith), two-width (k - 1) (omega (arith, q.1)) (omega (arith, v.within)), leb-true (length (frame s None delay k)) room (v.holds (omega (arith, q.1))), ap (λ (x : ℕ). length (frame s None delay x)) j, frame-length b delay d (k - 1) (omega (arith, v.within, q.1))))
         f
 
     -- the range count of a walk that is not over takes the field
-    pub count-width : {count : ℕ} → count ≤ most → count + 1 ≡ ranges_kept s Nothing delay room → (width_of count ≡ width_of most) × (count < 1024)
+    pub count-width : {count : ℕ} → count ≤ most → count + 1 ≡ ranges_kept s None delay room → (width_of count ≡ width_of most) × (count < 1024)
     count-width {count} l e =
-        let v = kept-says s Nothing delay room in
+        let v = kept-says s None delay room in
         let few = few-ranges s in
         ⊎_elim (λ q. (one_width count (omega arith) ∙ sym (ap width_of q ∙ one_width 63 (omega arith)), omega arith))
         (λ q. (two-width count (omega (arith, q.1)) (omega (arith, v.within)) ∙ sym (ap width_of q.0 ∙ two-width 16383 (omega arith) (omega arith)), omega (arith, v.within)))
         f
 
-  module _ (tail : Tail) {first : ℕ} (e : first ≡ size s 1024) where
+  module _ (tail : Option Counts) {first : ℕ} (e : first ≡ size s 1024) where
     -- the bytes before the range count
     abbrev pub head_bytes : List ℕ
     head_bytes = encode_all (type_of tail ∷ (s.end - 1) ∷ delay ∷ [])
@@ -135,7 +135,7 @@ module _ {s : Seen} (b : Begun s) {delay : ℕ} (d : delay ≤ limit) where
     unfolding body encode_all
     body_is k h = ap encode_all (body-numbers b (type_of tail) delay k h) ∙ rw e (simp append_assoc)
 
-    body-long : (k : ℕ) → k < number_of_ranges s → length (body s (type_of tail) delay (suc k)) ≡ length (frame s Nothing delay (suc k))
+    body-long : (k : ℕ) → k < number_of_ranges s → length (body s (type_of tail) delay (suc k)) ≡ length (frame s None delay (suc k))
     body-long k h = omega (arith, parts-length s tail delay (suc k), tail-length b delay d tail k h, frame-length b delay d k h)
 
     module _ {room most : ℕ} (f : Field s delay room most) (xs : List ℕ) (r : room ≤ length xs) (count : ℕ)
@@ -153,13 +153,13 @@ module _ {s : Seen} (b : Begun s) {delay : ℕ} (d : delay ≤ limit) where
           e₃ ∙ rw (e₂, ← n) (splice-splice us (encode (first - 1)) (encode_all (fields s count (low s 1024))) (length head_bytes + width_of most) (omega arith))
 
       -- the walk was not over: the range count makes it whole
-      pub completed : {ys : List ℕ} → count + 1 ≡ ranges_kept s Nothing delay room → width_of count ≡ width_of most → ys ≡ splice ws (length head_bytes) (encode count)
-          → (end ≡ length (body s (type_of tail) delay (ranges_kept s Nothing delay room))) × (ys ≡ splice xs 0 (body s (type_of tail) delay (ranges_kept s Nothing delay room)))
+      pub completed : {ys : List ℕ} → count + 1 ≡ ranges_kept s None delay room → width_of count ≡ width_of most → ys ≡ splice ws (length head_bytes) (encode count)
+          → (end ≡ length (body s (type_of tail) delay (ranges_kept s None delay room))) × (ys ≡ splice xs 0 (body s (type_of tail) delay (ranges_kept s None delay room)))
       completed {ys} g w i =
-          let v = kept-says s Nothing delay room in
+          let v = kept-says s None delay room in
           let few = few-ranges s in
           let n : length (encode count) ≡ width_of most = length-encode count (omega (arith, v.within)) ∙ w in
-          let k : ranges_kept s Nothing delay room ≡ suc count = omega arith in
+          let k : ranges_kept s None delay room ≡ suc count = omega arith in
           let q = body_is count (omega (arith, v.within)) in
           let c : List ℕ = encode (first - 1) ++ encode_all (fields s count (low s 1024)) in
           let x : ys ≡ splice us (length head_bytes) (encode count ++ c) =
@@ -169,14 +169,14 @@ module _ {s : Seen} (b : Begun s) {delay : ℕ} (d : delay ≤ limit) where
           rw k (omega (arith, body-long count (omega (arith, v.within)), frame-length b delay d count (omega (arith, v.within)), head-long), x ∙ y ∙ ap (splice xs 0) (sym q))
 
       -- it was over: what it stored is laid over
-      pub passed_over : 64 < ranges_kept s Nothing delay room → end ≤ length (frame s Nothing delay (ranges_kept s Nothing delay room))
-          → splice ws 0 (body s (type_of tail) delay (ranges_kept s Nothing delay room)) ≡ splice xs 0 (body s (type_of tail) delay (ranges_kept s Nothing delay room))
+      pub passed_over : 64 < ranges_kept s None delay room → end ≤ length (frame s None delay (ranges_kept s None delay room))
+          → splice ws 0 (body s (type_of tail) delay (ranges_kept s None delay room)) ≡ splice xs 0 (body s (type_of tail) delay (ranges_kept s None delay room))
       passed_over g h =
-          let k : ℕ = ranges_kept s Nothing delay room in
-          let v = kept-says s Nothing delay room in
+          let k : ℕ = ranges_kept s None delay room in
+          let v = kept-says s None delay room in
           let j : k ≡ suc (k - 1) = omega arith in
           let m = body-long (k - 1) (omega (arith, v.within)) in
-          let y : length (body s (type_of tail) delay k) ≡ length (frame s Nothing delay k) = rw j m in
+          let y : length (body s (type_of tail) delay k) ≡ length (frame s None delay k) = rw j m in
           let us' : List ℕ = body s (type_of tail) delay k in
           let c : List ℕ = encode (first - 1) ++ encode_all (fields s count (low s 1024)) in
           let o : length c ≡ width_of (first - 1) + bytes_below s count (low s 1024) = length-append (encode (first - 1)) (encode_all (fields s count (low s 1024))) ∙ ap (λ (x : ℕ). x + bytes_below s count (low s 1024)) (length-encode (first - 1) first_small) in

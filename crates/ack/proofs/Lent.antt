@@ -8,6 +8,7 @@ use native.Mathlib.Omega.{arith}
 use borrow.Author.Tests.{le-leb, ne_eqb}
 use lib.Dec.{leb, eqb}
 use lib.ListN.{length, take}
+use Rattle.std.specs.Prelude.{Option, None}
 use Rattle.wire.specs.Numbers.{limit, encode_all}
 use Rattle.wire.proofs.Lengths.{split}
 use Rattle.window.specs.Words.{words_in}
@@ -15,8 +16,7 @@ use Rattle.window.specs.Window.{places, value_of, lent_value, window_of, run_bel
 use Rattle.window.proofs.Sixteen.{Sixteen, lent, lent-value, bounded}
 use Rattle.window.proofs.Laws.{number-kept}
 use Rattle.window.proofs.Cleared.{cleared-le}
-use Rattle.frames.specs.declared.Tail.{Tail}
-use Rattle.frames.specs.declared.Tail.TheVariants.{Nothing}
+use Rattle.frames.specs.declared.Counts.{Counts}
 use Rattle.frames.specs.Ack.{range_numbers, ack_numbers}
 use Rattle.seen.specs.declared.Seen.{Seen}
 use Rattle.seen.specs.Received.{seen_consistent, reported}
@@ -66,7 +66,7 @@ module _ (s : Seen) where
   unfolding body
   same_body kind delay k = ap (λ (l : List ℕ). encode_all (range_numbers kind delay (take (2 * k) l))) (same-below places places)
 
-  same_kept : (tail : Tail) (delay room : ℕ) → ranges_kept (bare s) tail delay room ≡ ranges_kept s tail delay room
+  same_kept : (tail : Option Counts) (delay room : ℕ) → ranges_kept (bare s) tail delay room ≡ ranges_kept s tail delay room
   unfolding ranges_kept frame
   same_kept tail delay room =
       ap (λ (l : List ℕ). largest_where (λ (k : ℕ). leb (length (encode_all (ack_numbers tail delay (take (2 * k) l)))) room) (length l / 2)) (same-below places places)
@@ -94,7 +94,7 @@ module _ (s : Seen) (h : Sixteen s.window.words) {least : ℕ} (e : least ≡ bo
       (g, g ∙ ap (λ (t : Seen). run_below true 1024 (value_of t.window)) (from-reported s h e))
 
   pub from-body : (kind delay room : ℕ)
-      → body (marks_from s.window.words s.end least) kind delay (ranges_kept (marks_from s.window.words s.end least) Nothing delay room) ≡ body (reported s) kind delay (ranges_kept (reported s) Nothing delay room)
+      → body (marks_from s.window.words s.end least) kind delay (ranges_kept (marks_from s.window.words s.end least) None delay room) ≡ body (reported s) kind delay (ranges_kept (reported s) None delay room)
   from-body kind delay room =
-      ap (λ (t : Seen). body t kind delay (ranges_kept t Nothing delay room)) (from-reported s h e)
-      ∙ ap (body (bare (reported s)) kind delay) (same_kept (reported s) Nothing delay room) ∙ same_body (reported s) kind delay (ranges_kept (reported s) Nothing delay room)
+      ap (λ (t : Seen). body t kind delay (ranges_kept t None delay room)) (from-reported s h e)
+      ∙ ap (body (bare (reported s)) kind delay) (same_kept (reported s) None delay room) ∙ same_body (reported s) kind delay (ranges_kept (reported s) None delay room)

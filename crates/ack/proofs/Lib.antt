@@ -12,3 +12,4 @@ pub mod Least
 pub mod Lent
 pub mod Walking
 pub mod Framing
+pub mod Refusals

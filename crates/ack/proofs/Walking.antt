@@ -10,12 +10,12 @@ use native.Mathlib.Omega.{arith}
 use borrow.Author.Tests.{leb-true, leb-false, ltb-true, ltb-false}
 use lib.Dec.{ltb}
 use lib.ListN.{length, take-append-drop}
+use Rattle.std.specs.Prelude.{None}
 use Rattle.wire.specs.Bytes.{splice}
 use Rattle.wire.specs.Numbers.{limit, width_of, encode, encode_all}
 use Rattle.wire.proofs.Bytes.{splice-splice}
 use Rattle.wire.proofs.Lengths.{split, width-pos}
 use Rattle.wire.proofs.Writing.{length-encode}
-use Rattle.frames.specs.declared.Tail.TheVariants.{Nothing}
 use Rattle.seen.specs.declared.Seen.{Seen}
 use Rattle.ack.specs.Ack.{frame, ranges_kept}
 use Rattle.window.specs.Window.{value_of, run_below}
@@ -25,14 +25,14 @@ use Rattle.ack.proofs.Short.{one_width, two-width}
 
 -- the field of the range count holds `most`: one byte, or two where more than 64 ranges fit
 abbrev pub Field : Seen → ℕ → ℕ → ℕ → Type 0
-Field s delay room most = (most ≡ 63) ⊎ ((most ≡ 16383) × (64 < ranges_kept s Nothing delay room))
+Field s delay room most = (most ≡ 63) ⊎ ((most ≡ 16383) × (64 < ranges_kept s None delay room))
 
 -- what a walk that began with xs at place `from`, below place p, leaves and answers
 abbrev pub Answer : Seen → ℕ → ℕ → ℕ → ℕ → ℕ → List ℕ → List ℕ → ℕ → ℕ → Bool → Type 0
 Answer s delay room most from p xs ys end count over =
-    (end ≡ from + bytes_below s count p) × (ys ≡ splice xs from (encode_all (fields s count p))) × (end ≤ room) × (count < ranges_kept s Nothing delay room) × (count ≤ most)
-    × (over ≡ false → count + 1 ≡ ranges_kept s Nothing delay room)
-    × (over ≡ true → (most ≡ 63) × (64 < ranges_kept s Nothing delay room) × (end ≤ length (frame s Nothing delay (ranges_kept s Nothing delay room))))
+    (end ≡ from + bytes_below s count p) × (ys ≡ splice xs from (encode_all (fields s count p))) × (end ≤ room) × (count < ranges_kept s None delay room) × (count ≤ most)
+    × (over ≡ false → count + 1 ≡ ranges_kept s None delay room)
+    × (over ≡ true → (most ≡ 63) × (64 < ranges_kept s None delay room) × (end ≤ length (frame s None delay (ranges_kept s None delay room))))
 
 -- on the way: `count` ranges after the first are stored, down to place p
 pub record Walking (s : Seen) (delay room most from : ℕ) (xs ys : List ℕ) (at p count : ℕ) : Type 0 where
@@ -50,16 +50,16 @@ first_ends {s} b e = e ∙ sym (first-low b ∙ ap (λ (x : ℕ). 1024 - x) (sym
 
 module _ {s : Seen} (b : Begun s) {delay : ℕ} (d : delay ≤ limit) where
   -- what was counted fits
-  pub counted-kept : {room p bytes count : ℕ} → Counted s delay room p bytes count → count ≤ ranges_kept s Nothing delay room
+  pub counted-kept : {room p bytes count : ℕ} → Counted s delay room p bytes count → count ≤ ranges_kept s None delay room
   counted-kept {room} {p} {bytes} {count} c =
-      let k : ℕ = ranges_kept s Nothing delay room in
-      let l = kept-says s Nothing delay room in
+      let k : ℕ = ranges_kept s None delay room in
+      let l = kept-says s None delay room in
       split count k (λ h. h)
       (λ h.
       let f = counted-fits b delay room d c in
-      absurd (omega (arith, leb-false (length (frame s Nothing delay count)) room (l.above count h (omega (arith, c.rest))))))
+      absurd (omega (arith, leb-false (length (frame s None delay count)) room (l.above count h (omega (arith, c.rest))))))
 
-  pub walk_begins : {room most from : ℕ} (xs : List ℕ) → from + 1 ≡ length (frame s Nothing delay 1) + width_of most → from ≤ room → most ≤ limit → Walking s delay room most from xs xs from (low s 1024) 0
+  pub walk_begins : {room most from : ℕ} (xs : List ℕ) → from + 1 ≡ length (frame s None delay 1) + width_of most → from ≤ room → most ≤ limit → Walking s delay room most from xs xs from (low s 1024) 0
   walk_begins {room} {most} {from} xs e h l =
       let r = first_rest b in
       let n : bytes_below s 0 (low s 1024) ≡ 0 = rw (fields-zero s (low s 1024)) bytes-none in
@@ -90,23 +90,23 @@ module _ {s : Seen} (b : Begun s) {delay : ℕ} (d : delay ≤ limit) where
         )
 
     -- the walk is over, with every range that fits
-    pub walk_ends : count + 1 ≡ ranges_kept s Nothing delay room → Answer s delay room most from (low s 1024) xs ys at count false
+    pub walk_ends : count + 1 ≡ ranges_kept s None delay room → Answer s delay room most from (low s 1024) xs ys at count false
     walk_ends e =
         let t = stands in
         (t.0, t.1, w.within, omega arith, w.few, λ f. e, λ f. absurd (let z : ◌≡◌ {A = ℕ} 0 1 = cc in omega arith))
 
     -- a frame with more ranges goes on behind them
-    kept-longer : width_of most ≤ 1 → at ≤ length (frame s Nothing delay (ranges_kept s Nothing delay room))
+    kept-longer : width_of most ≤ 1 → at ≤ length (frame s None delay (ranges_kept s None delay room))
     kept-longer h =
-        let k : ℕ = ranges_kept s Nothing delay room in
+        let k : ℕ = ranges_kept s None delay room in
         let c = w.counted in
         let l = counted-kept c in
-        let v = kept-says s Nothing delay room in
+        let v = kept-says s None delay room in
         let few = few-ranges s in
         let j : k ≡ suc (k - 1) = omega arith in
         let o : count + 1 - 1 + (k - 1 - count) ≡ k - 1 = omega arith in
         omega
-        (arith, ap (λ (x : ℕ). length (frame s Nothing delay x)) j, frame-length b delay d (k - 1) (omega (arith, v.within)), c.sum (k - 1 - count), ap (λ (x : ℕ). bytes_below s x (low s 1024)) o, width-pos (k - 1) (omega (arith, v.within)), w.far)
+        (arith, ap (λ (x : ℕ). length (frame s None delay x)) j, frame-length b delay d (k - 1) (omega (arith, v.within)), c.sum (k - 1 - count), ap (λ (x : ℕ). bytes_below s x (low s 1024)) o, width-pos (k - 1) (omega (arith, v.within)), w.far)
 
     -- no range is left
     pub walk-all : top s p ≡ 0 → Answer s delay room most from (low s 1024) xs ys at count false
@@ -117,10 +117,10 @@ module _ {s : Seen} (b : Begun s) {delay : ℕ} (d : delay ≤ limit) where
       -- the field is no wider than that of more ranges, and so the next range does not fit with it either
       pub walk-full : Field s delay room most → room < at + width_of (m - 1) + width_of (z - 1) → Answer s delay room most from (low s 1024) xs ys at count false
       walk-full g h =
-          let k : ℕ = ranges_kept s Nothing delay room in
+          let k : ℕ = ranges_kept s None delay room in
           let c = w.counted in
           let l = counted-kept c in
-          let v = kept-says s Nothing delay room in
+          let v = kept-says s None delay room in
           walk_ends
           (split k (count + 1) (λ i. omega arith)
           (λ i.
@@ -131,10 +131,10 @@ module _ {s : Seen} (b : Begun s) {delay : ℕ} (d : delay ≤ limit) where
           ⊎_elim (λ q. omega (arith, ap width_of q, one_width 63 (omega arith), width-pos (k - 1) (omega (arith, v.within))))
           (λ q. omega (arith, ap width_of q.0, two-width 16383 (omega arith) (omega arith), two-width (k - 1) (omega (arith, q.1)) (omega (arith, v.within)))) g in
           let t = some_more b d c e f n in
-          let x = leb-true (length (frame s Nothing delay k)) room (v.holds (omega arith)) in
+          let x = leb-true (length (frame s None delay k)) room (v.holds (omega arith)) in
           absurd
           (omega
-          (arith, x, ap (λ (x : ℕ). length (frame s Nothing delay x)) j, frame-length b delay d (k - 1) (omega (arith, v.within)), c.sum (suc (k - 1 - count - 1)), ap (λ (x : ℕ). bytes_below s x (low s 1024)) o, bytes-more b delay d (k - 1 - count - 1) p c.at t, ap (λ (x : ℕ). width_of (x - 1)) e, ap (λ (x : ℕ). width_of (x - 1)) f, w.far))))
+          (arith, x, ap (λ (x : ℕ). length (frame s None delay x)) j, frame-length b delay d (k - 1) (omega (arith, v.within)), c.sum (suc (k - 1 - count - 1)), ap (λ (x : ℕ). bytes_below s x (low s 1024)) o, bytes-more b delay d (k - 1 - count - 1) p c.at t, ap (λ (x : ℕ). width_of (x - 1)) e, ap (λ (x : ℕ). width_of (x - 1)) f, w.far))))
 
       -- the field holds no larger count: one range more fits with two bytes or does not
       over : Field s delay room most → at + width_of (m - 1) + width_of (z - 1) ≤ room → count ≡ most

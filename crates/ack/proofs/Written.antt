@@ -1,20 +1,21 @@
 -- What `write_ack` answers and leaves in the buffer, from what its tests said: 1, 5, 8, 9 in this order, or the frame.
 -- Assumes nothing.
-use Prim.Native.Nat.{ℕ, suc, ◌+◌, ◌-◌, ◌/◌, ◌≤◌, ◌<◌}
+use Prim.Native.Nat.{ℕ, ◌+◌, ◌-◌, ◌/◌, ◌≤◌, ◌<◌}
 use mathlib.Core.Path.{◌≡◌, refl, sym, ap, ◌∙◌}
-use mathlib.Core.Bool.{Bool, true, false}
+use mathlib.Core.Bool.{Bool, true, false, ◌&&◌}
 use mathlib.Core.List.{List}
 use native.Mathlib.Omega.{arith}
 use borrow.Author.Tests.{le-leb, leb-true, eq-eqb, ne_eqb}
 use lib.ListN.{length}
+use Rattle.std.specs.Prelude.{Option, None, Result, Ok, Err}
+use Rattle.wire.specs.declared.Refusal.{Refusal}
+use Rattle.wire.specs.declared.Refusal.TheVariants.{Inconsistent, TooLarge, NothingReceived, NoRoom}
 use Rattle.wire.specs.Bytes.{pick, splice}
 use Rattle.wire.specs.Numbers.{limit, encode_all, all_small}
-use Rattle.frames.specs.declared.Tail.{Tail}
-use Rattle.frames.specs.declared.Tail.TheVariants.{Nothing}
+use Rattle.frames.specs.declared.Counts.{Counts}
 use Rattle.frames.specs.Ack.{type_of, counts_of}
 use Rattle.seen.specs.declared.Micros.{Micros}
 use Rattle.seen.specs.declared.Seen.{Seen}
-use Rattle.ack.specs.declared.Acked.{Acked}
 use Rattle.seen.specs.Numbers.{small}
 use Rattle.seen.specs.Received.{seen_consistent, reported}
 use Rattle.ack.specs.Ack.{number_of_ranges, ack_delay, frame, body, fits, ranges_kept, marks_refusal, marks_answer, marks_bytes, ack_refusal, ack_answer, ack_bytes}
@@ -28,7 +29,7 @@ delay-small time d t h = omega (arith, leb-true time.0 limit t)
 pub some_end : {end : ℕ} → (end ≡ 0 → ⊥) → 0 < end
 some_end n = omega arith
 
-module _ (s : Seen) (time : Micros) (tail : Tail) (room : ℕ) where
+module _ (s : Seen) (time : Micros) (tail : Option Counts) (room : ℕ) where
   pub gives_one : seen_consistent s ≡ false → ack_refusal s time tail room ≡ 1
   unfolding ack_refusal
   gives_one e = rw e
@@ -58,17 +59,26 @@ module _ (s : Seen) (time : Micros) (tail : Tail) (room : ℕ) where
           unfolding ack_refusal
           gives-rest = rw (y, t, g, ne_eqb s.end 0 n)
 
-module _ (s : Seen) (time : Micros) (tail : Tail) (xs : List ℕ) where
-  pub refused : (n : ℕ) → ack_refusal s time tail (length xs) ≡ suc n → (record { result = suc n; length = 0 } ≡ ack_answer s time tail xs) × (xs ≡ ack_bytes s time tail xs)
-  unfolding ack_answer ack_bytes
-  refused n e = rw e (refl, refl)
+module _ (s : Seen) (time : Micros) (tail : Option Counts) (xs : List ℕ) where
+  pub refused_one : seen_consistent s ≡ false → (Err Inconsistent ≡ ack_answer s time tail xs) × (xs ≡ ack_bytes s time tail xs)
+  unfolding ack_answer ack_bytes ack_refusal
+  refused_one e = rw e (refl, refl)
+
+  module _ (y : seen_consistent s ≡ true) where
+    pub refused-five : (small time.0 && all_small (counts_of tail)) ≡ false → (Err TooLarge ≡ ack_answer s time tail xs) × (xs ≡ ack_bytes s time tail xs)
+    unfolding ack_answer ack_bytes ack_refusal
+    refused-five e = rw (y, e) (refl, refl)
+
+    pub refused-eight : small time.0 ≡ true → all_small (counts_of tail) ≡ true → s.end ≡ 0 → (Err NothingReceived ≡ ack_answer s time tail xs) × (xs ≡ ack_bytes s time tail xs)
+    unfolding ack_answer ack_bytes ack_refusal
+    refused-eight t g e = rw (y, t, g, eq-eqb s.end 0 e) (refl, refl)
 
   -- no refusal before 9: the answer is that of what is reported
   pub passed_on : seen_consistent s ≡ true → small time.0 ≡ true → all_small (counts_of tail) ≡ true → (s.end ≡ 0 → ⊥)
-      → {a : Acked} {ys : List ℕ} → (a ≡ marks_answer (reported s) time tail xs) × (ys ≡ marks_bytes (reported s) time tail xs)
+      → {a : Result ℕ Refusal} {ys : List ℕ} → (a ≡ marks_answer (reported s) time tail xs) × (ys ≡ marks_bytes (reported s) time tail xs)
       → (a ≡ ack_answer s time tail xs) × (ys ≡ ack_bytes s time tail xs)
-  unfolding ack_answer ack_bytes marks_answer marks_bytes
-  passed_on y t g n (e, f) = rw (gives-rest s time tail (length xs) y t g n) (e, f)
+  unfolding ack_answer ack_bytes ack_refusal marks_bytes
+  passed_on y t g n (e, f) = rw (y, t, g, ne_eqb s.end 0 n) (e, f)
 
   module _ (y : seen_consistent s ≡ true) (t : small time.0 ≡ true) (h : 0 < s.end) {d : ℕ} (e : d ≡ time.0 - s.arrived.0) where
     some : Begun s
@@ -81,12 +91,12 @@ module _ (s : Seen) (time : Micros) (tail : Tail) (xs : List ℕ) where
     small-delay = delay-small time d t (omega arith)
 
     -- k ranges fit what the counts leave of the room
-    module _ {k room : ℕ} (q : room ≡ length xs - bytes_of tail) (f : k ≡ ranges_kept s Nothing (d / 8) room) where
+    module _ {k room : ℕ} (q : room ≡ length xs - bytes_of tail) (f : k ≡ ranges_kept s None (d / 8) room) where
       kept : k ≡ ranges_kept s tail (d / 8) (length xs)
       kept = f ∙ rw q (sym (kept_less some (d / 8) small-delay tail (length xs)))
 
       -- not even the first range fits
-      pub wrote_none : k ≡ 0 → (record { result = 9; length = 0 } ≡ marks_answer s time tail xs) × (xs ≡ marks_bytes s time tail xs)
+      pub wrote_none : k ≡ 0 → (Err NoRoom ≡ marks_answer s time tail xs) × (xs ≡ marks_bytes s time tail xs)
       unfolding marks_answer marks_bytes
       wrote_none z =
           let c = kept-says s tail (d / 8) (length xs) in
@@ -106,7 +116,7 @@ module _ (s : Seen) (time : Micros) (tail : Tail) (xs : List ℕ) where
 
         pub wrote-frame : {m n : ℕ} {ys zs : List ℕ} → m ≡ length (body s (type_of tail) (d / 8) k) → ys ≡ splice xs 0 (body s (type_of tail) (d / 8) k)
             → n ≡ m + bytes_of tail → zs ≡ splice ys m (encode_all (counts_of tail))
-            → (record { result = 0; length = n } ≡ marks_answer s time tail xs) × (zs ≡ marks_bytes s time tail xs)
+            → (Ok n ≡ marks_answer s time tail xs) × (zs ≡ marks_bytes s time tail xs)
         unfolding marks_answer marks_bytes
         wrote-frame {m} {n} {ys} {zs} p r g h =
             let o = some-kept in

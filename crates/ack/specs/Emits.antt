@@ -1,9 +1,8 @@
 -- What a written ACK promises, in statements that read alone: its ranges, and its frame read back.
-use Rattle.std.specs.Prelude.{ℕ, ◌+◌, ◌-◌, ◌*◌, ◌≤◌, ◌<◌, ◌≡◌, true, List, length, take, get_or}
+use Rattle.std.specs.Prelude.{ℕ, ◌+◌, ◌-◌, ◌*◌, ◌≤◌, ◌<◌, ◌≡◌, true, List, length, take, get_or, Option, Ok}
 use Rattle.wire.specs.Bytes.{splice}
 use Rattle.frames.specs.Ack.{read_ack}
-use Rattle.frames.specs.declared.Tail.{Tail}
-use Rattle.frames.specs.declared.Ack.TheVariants.{Frame}
+use Rattle.frames.specs.declared.Counts.{Counts}
 use Rattle.seen.specs.declared.Micros.{Micros}
 use Rattle.seen.specs.declared.Seen.{Seen}
 use Rattle.seen.specs.Received.{floor, received, seen_consistent, reported}
@@ -41,7 +40,7 @@ RangesAreRuns = (s : Seen) → seen_consistent s ≡ true → 0 < s.end → Maxi
 -- ---- what is written, the ACK reader reads back
 
 -- an accepted write to xs leaves ys, n bytes of it the frame: k is how many ranges it keeps, and zs a lent slice that has room for them
-pub record Emits (s : Seen) (time : Micros) (tail : Tail) (xs ys : List ℕ) (n k : ℕ) : Type 0 where
+pub record Emits (s : Seen) (time : Micros) (tail : Option Counts) (xs ys : List ℕ) (n k : ℕ) : Type 0 where
   -- "the first range is always there"
   pub first : (0 < k) × (k ≤ number_of_ranges (reported s))
   -- "as many [..] as fit": one range more, if there is one, would not have fitted
@@ -49,9 +48,9 @@ pub record Emits (s : Seen) (time : Micros) (tail : Tail) (xs ys : List ℕ) (n 
   pub most : k < number_of_ranges (reported s) → length xs < length (frame (reported s) tail (ack_delay s time) (k + 1))
   -- "an ACK with largest L", the delay, exactly the k newest ranges and the tail
   pub back : (zs : List ℕ) → 2 * k ≤ length zs
-      → read_ack ys zs ≡ record { answer = Frame (s.end - 1) (ack_delay s time) k n tail; slice = splice zs 0 (take (2 * k) (ranges (reported s))) }
+      → read_ack ys zs ≡ record { answer = Ok (record { largest = s.end - 1; delay = ack_delay s time; ranges = k; used = n; tail = tail }); slice = splice zs 0 (take (2 * k) (ranges (reported s))) }
 
 abbrev pub AckReadBack : Type 0
 AckReadBack =
-    (s : Seen) (time : Micros) (tail : Tail) (xs : List ℕ) → (ack_answer s time tail xs).result ≡ 0
-    → Emits s time tail xs (ack_bytes s time tail xs) (ack_answer s time tail xs).length (ranges_kept (reported s) tail (ack_delay s time) (length xs))
+    (s : Seen) (time : Micros) (tail : Option Counts) (xs : List ℕ) (n : ℕ) → ack_answer s time tail xs ≡ Ok n
+    → Emits s time tail xs (ack_bytes s time tail xs) n (ranges_kept (reported s) tail (ack_delay s time) (length xs))

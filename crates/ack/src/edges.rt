@@ -4,8 +4,6 @@ ghost use Rattle.window.specs.Words.{other_than};
 ghost use Rattle.window.specs.Window.{places, lent_value, run_below, cleared_below};
 ghost use Rattle.ack.specs.Walk.{Others};
 
-use seen::numbers;
-
 // A word in which every place is marked.
 const ONES: u64 = 18446744073709551615;
 
@@ -27,7 +25,7 @@ pub(crate) struct Range {
     pub left: u64,
 }
 
-// The word with a 1 at each place whose mark is not `marked`.
+// The word with a 1 at each place whose mark is not `marked`. The crate window has the same for itself: a shared one would be no plainer.
 fn other_than(marked: bool, word: u64) -> u64
     ensures { (result ≡ other_than marked word) × (word < 2 ^ 64) }
 {
@@ -80,14 +78,11 @@ pub(crate) fn edge_below(
 fn first_run(words: &[u64; 16]) -> u64
     ensures { result ≡ run_below true places (lent_value words.now) }
 {
-    let mut left = window::PLACES;
-    while 0 < left {
-        let i = (left / 64 - 1) as usize;
+    for i in (0..16).rev() {
         let other = others_in(words, i, true);
         if other != 0 {
-            return window::PLACES - left + u64::leading_zeros(other) as u64;
+            return 64 * (15 - i as u64) + u64::leading_zeros(other) as u64;
         }
-        left -= 64;
     }
     window::PLACES
 }
@@ -98,7 +93,7 @@ pub(crate) fn first_size(words: &[u64; 16], least: u64) -> u64
     ensures { result ≡ run_below true places (cleared_below least (lent_value words.now)) }
 {
     let run = first_run(words);
-    let low = numbers::larger_of(window::PLACES - run, least);
+    let low = (window::PLACES - run).max(least);
     window::PLACES - low
 }
 
@@ -119,7 +114,7 @@ pub(crate) fn range_at(words: &[u64; 16], least: u64, place: u64, index: usize, 
         };
     }
     let bottom = edge_below(words, top.place, top.index, top.left, true);
-    let low = numbers::larger_of(bottom.place, least);
+    let low = bottom.place.max(least);
     Range {
         missing: place - top.place,
         size: top.place - low,

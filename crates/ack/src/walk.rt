@@ -1,17 +1,16 @@
 // The ranges of an ACK frame, written in one walk from the newest down: each is stored as it is found, and the range count last.
-ghost use Rattle.std.specs.Prelude.{◌≡◌, true, false, ◌⊎◌, [], ◌∷◌, ◌+◌, ◌-◌, ◌*◌, ◌/◌, ◌≤◌, ◌<◌, length, take};
+ghost use Rattle.std.specs.Prelude.{◌≡◌, true, false, ◌⊎◌, [], ◌∷◌, ◌+◌, ◌-◌, ◌*◌, ◌≤◌, ◌<◌, length, take};
 ghost use Rattle.wire.specs.Numbers.{limit, width_of, encode, encode_all};
 ghost use Rattle.wire.specs.Bytes.{splice};
-ghost use Rattle.frames.specs.Ack.{type_of, gaps_from};
-ghost use Rattle.frames.specs.declared.Tail.TheVariants.{Nothing};
+ghost use Rattle.frames.specs.Ack.{gaps_from};
 ghost use Rattle.window.specs.Window.{places, value_of, run_below};
 ghost use Rattle.seen.specs.Received.{seen_consistent};
-ghost use Rattle.ack.specs.Ack.{number_at, ranges_below, frame, body, ranges_kept};
-ghost use Rattle.ack.specs.Walk.{marks_from};
+ghost use Rattle.ack.specs.Ack.{number_at, ranges_below};
+ghost use Rattle.ack.specs.Walk.{marks_told, kept_told, room_told, body_told};
 
 use crate::edges::{others_in, range_at};
 use crate::type_of;
-use frames::Tail;
+use frames::Counts;
 
 // How many bytes a gap or a length takes: it is below 1,024, the places of a window.
 fn short_width(v: u64) -> usize
@@ -36,6 +35,15 @@ fn put_short(buf: &mut [u8], at: usize, v: u64) -> usize
     at + 2
 }
 
+// What a frame tells besides its ranges, and its room: L's end, the place from which on marks count, the delay, and how many bytes there are before the counts.
+#[derive(Clone, Copy)]
+pub(crate) struct Told {
+    pub end: u64,
+    pub least: u64,
+    pub delay: u64,
+    pub room: usize,
+}
+
 // What a walk stored: so many ranges after the first, up to the place `end`. Where it is over, one more fits, but its range count takes more bytes.
 #[derive(Clone, Copy)]
 pub(crate) struct Walked {
@@ -48,23 +56,20 @@ pub(crate) struct Walked {
 // No mark below place `least` counts.
 pub(crate) fn put_ranges(
     words: &[u64; 16],
-    end: u64,
-    least: u64,
+    told: Told,
     low: u64,
-    delay: u64,
     most: u64,
     from: usize,
-    room: usize,
     buf: &mut [u8],
 ) -> Walked
-    requires { (seen_consistent (marks_from words.now end least) ≡ true) × (0 < end) × (delay ≤ limit) × (room ≤ length buf.old) × (low ≡ places - run_below true places (value_of (marks_from words.now end least).window))
-        × (from + 1 ≡ length (frame (marks_from words.now end least) Nothing delay 1) + width_of most) × (from ≤ room)
-        × ((most ≡ 63) ⊎ ((most ≡ 16383) × (64 < ranges_kept (marks_from words.now end least) Nothing delay room))) }
-    ensures { (result.end ≡ from + length (encode_all (gaps_from (number_at end low) (take (2 * result.count) (ranges_below places (marks_from words.now end least) low)))))
-        × (buf.new ≡ splice buf.old from (encode_all (gaps_from (number_at end low) (take (2 * result.count) (ranges_below places (marks_from words.now end least) low)))))
-        × (result.end ≤ room) × (result.count < ranges_kept (marks_from words.now end least) Nothing delay room) × (result.count ≤ most)
-        × (result.over ≡ false → result.count + 1 ≡ ranges_kept (marks_from words.now end least) Nothing delay room)
-        × (result.over ≡ true → (most ≡ 63) × (64 < ranges_kept (marks_from words.now end least) Nothing delay room) × (result.end ≤ length (frame (marks_from words.now end least) Nothing delay (ranges_kept (marks_from words.now end least) Nothing delay room)))) }
+    requires { (seen_consistent (marks_told words.now told) ≡ true) × (0 < told.end) × (told.delay ≤ limit) × (told.room ≤ length buf.old) × (low ≡ places - run_below true places (value_of (marks_told words.now told).window))
+        × (from + 1 ≡ room_told words.now told 1 + width_of most) × (from ≤ told.room)
+        × ((most ≡ 63) ⊎ ((most ≡ 16383) × (64 < kept_told words.now told))) }
+    ensures { (result.end ≡ from + length (encode_all (gaps_from (number_at told.end low) (take (2 * result.count) (ranges_below places (marks_told words.now told) low)))))
+        × (buf.new ≡ splice buf.old from (encode_all (gaps_from (number_at told.end low) (take (2 * result.count) (ranges_below places (marks_told words.now told) low)))))
+        × (result.end ≤ told.room) × (result.count < kept_told words.now told) × (result.count ≤ most)
+        × (result.over ≡ false → result.count + 1 ≡ kept_told words.now told)
+        × (result.over ≡ true → (most ≡ 63) × (64 < kept_told words.now told) × (result.end ≤ room_told words.now told (kept_told words.now told))) }
 {
     let mut at = from;
     let mut place = low;
@@ -73,8 +78,8 @@ pub(crate) fn put_ranges(
     let mut index = (low / 64) as usize;
     let word = others_in(words, index, false);
     let mut left = word % (1 << (low % 64));
-    while least < place {
-        let range = range_at(words, least, place, index, left);
+    while told.least < place {
+        let range = range_at(words, told.least, place, index, left);
         if range.size == 0 {
             break;
         }
@@ -82,11 +87,11 @@ pub(crate) fn put_ranges(
         let gap = range.missing - 1;
         let more = range.size - 1;
         let after = at + short_width(gap) + short_width(more);
-        if room < after {
+        if told.room < after {
             break;
         }
         if count == most {
-            let over = after < room;
+            let over = after < told.room;
             return Walked {
                 count,
                 end: at,
@@ -122,45 +127,32 @@ fn put_head(kind: u64, largest: u64, delay: u64, buf: &mut [u8]) -> usize
     ensures { (result ≡ length (encode_all (kind ∷ largest ∷ delay ∷ []))) × (buf.new ≡ splice buf.old 0 (encode_all (kind ∷ largest ∷ delay ∷ []))) }
 {
     let at = put_short(buf, 0, kind);
-    wire::put_number(buf, at, largest);
+    let _ = wire::put_number(buf, at, largest);
     let next = at + wire::width(largest);
-    wire::put_number(buf, next, delay);
+    let _ = wire::put_number(buf, next, delay);
     next + wire::width(delay)
 }
 
 // Writes the frame up to its counts, the range count in a field that holds up to `most` (RFC 9000 19.3).
 fn put_frame(
     words: &[u64; 16],
-    end: u64,
-    least: u64,
-    tail: Tail,
+    told: Told,
+    tail: Option<Counts>,
     first: u64,
-    delay: u64,
     most: u64,
-    room: usize,
     buf: &mut [u8],
 ) -> Walked
-    requires { (seen_consistent (marks_from words.now end least) ≡ true) × (0 < end) × (delay ≤ limit) × (room ≤ length buf.old) × (first ≡ run_below true places (value_of (marks_from words.now end least).window))
-        × (length (frame (marks_from words.now end least) Nothing delay 1) ≤ room)
-        × ((most ≡ 63) ⊎ ((most ≡ 16383) × (64 < ranges_kept (marks_from words.now end least) Nothing delay room))) }
-    ensures { (result.over ≡ false → (result.end ≡ length (body (marks_from words.now end least) (type_of tail) delay (ranges_kept (marks_from words.now end least) Nothing delay room)))
-        × (buf.new ≡ splice buf.old 0 (body (marks_from words.now end least) (type_of tail) delay (ranges_kept (marks_from words.now end least) Nothing delay room))))
-        × (result.over ≡ true → (most ≡ 63) × (64 < ranges_kept (marks_from words.now end least) Nothing delay room)
-        × (splice buf.new 0 (body (marks_from words.now end least) (type_of tail) delay (ranges_kept (marks_from words.now end least) Nothing delay room)) ≡ splice buf.old 0 (body (marks_from words.now end least) (type_of tail) delay (ranges_kept (marks_from words.now end least) Nothing delay room)))) }
+    requires { (seen_consistent (marks_told words.now told) ≡ true) × (0 < told.end) × (told.delay ≤ limit) × (told.room ≤ length buf.old) × (first ≡ run_below true places (value_of (marks_told words.now told).window))
+        × (room_told words.now told 1 ≤ told.room)
+        × ((most ≡ 63) ⊎ ((most ≡ 16383) × (64 < kept_told words.now told))) }
+    ensures { (result.over ≡ false → (result.end ≡ length (body_told words.now told tail))
+        × (buf.new ≡ splice buf.old 0 (body_told words.now told tail)))
+        × (result.over ≡ true → (most ≡ 63) × (64 < kept_told words.now told)
+        × (splice buf.new 0 (body_told words.now told tail) ≡ splice buf.old 0 (body_told words.now told tail))) }
 {
-    let count_at = put_head(type_of(tail), end - 1, delay, buf);
+    let count_at = put_head(type_of(tail), told.end - 1, told.delay, buf);
     let from = put_short(buf, count_at + wire::width(most), first - 1);
-    let walked = put_ranges(
-        words,
-        end,
-        least,
-        window::PLACES - first,
-        delay,
-        most,
-        from,
-        room,
-        buf,
-    );
+    let walked = put_ranges(words, told, window::PLACES - first, most, from, buf);
     if walked.over {
         return walked;
     }
@@ -172,22 +164,19 @@ fn put_frame(
 // Up to 64 ranges have a range count of one byte. Where more fit, all is written once more with one of two.
 pub(crate) fn put_body(
     words: &[u64; 16],
-    end: u64,
-    least: u64,
-    tail: Tail,
+    told: Told,
+    tail: Option<Counts>,
     first: u64,
-    delay: u64,
-    room: usize,
     buf: &mut [u8],
 ) -> usize
-    requires { (seen_consistent (marks_from words.now end least) ≡ true) × (0 < end) × (delay ≤ limit) × (room ≤ length buf.old) × (first ≡ run_below true places (value_of (marks_from words.now end least).window))
-        × (length (frame (marks_from words.now end least) Nothing delay 1) ≤ room) }
-    ensures { (result ≡ length (body (marks_from words.now end least) (type_of tail) delay (ranges_kept (marks_from words.now end least) Nothing delay room)))
-        × (buf.new ≡ splice buf.old 0 (body (marks_from words.now end least) (type_of tail) delay (ranges_kept (marks_from words.now end least) Nothing delay room))) }
+    requires { (seen_consistent (marks_told words.now told) ≡ true) × (0 < told.end) × (told.delay ≤ limit) × (told.room ≤ length buf.old) × (first ≡ run_below true places (value_of (marks_told words.now told).window))
+        × (room_told words.now told 1 ≤ told.room) }
+    ensures { (result ≡ length (body_told words.now told tail))
+        × (buf.new ≡ splice buf.old 0 (body_told words.now told tail)) }
 {
-    let short = put_frame(words, end, least, tail, first, delay, 63, room, buf);
+    let short = put_frame(words, told, tail, first, 63, buf);
     if short.over {
-        let wide = put_frame(words, end, least, tail, first, delay, 16383, room, buf);
+        let wide = put_frame(words, told, tail, first, 16383, buf);
         return wide.end;
     }
     short.end

@@ -1,8 +1,6 @@
 -- The lines of the seven calls, byte for byte as the format has them, and three that the rules give: stale, refused, and a refused opening.
 use Rattle.std.specs.Prelude.{ℕ, ◌≡◌, true, List, [], ◌∷◌}
-use Prim.Native.String.{String}
 use Rattle.texts.specs.Forms.{bytes}
-use Rattle.seen.specs.declared.Micros.{Micros}
 use Rattle.ecn.specs.declared.Mark.TheVariants.{None}
 use Rattle.ecn.specs.declared.Kind.TheVariants.{Plain}
 use Rattle.receiver.specs.declared.Receiver.{Receiver}

@@ -1,5 +1,5 @@
 -- A logged call: its line is written with it, or nothing happens.
-use Rattle.std.specs.Prelude.{ℕ, zero, suc, Bool, true, false, ◌&&◌, List, [], eqb, leb, length}
+use Rattle.std.specs.Prelude.{ℕ, zero, suc, Bool, false, ◌&&◌, List, [], eqb, leb, length}
 use Rattle.wire.specs.Bytes.{pick, splice}
 use Rattle.seen.specs.declared.Micros.{Micros}
 use Rattle.receiver.specs.declared.Receiver.{Receiver}

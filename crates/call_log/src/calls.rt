@@ -9,6 +9,7 @@ ghost use Rattle.call_log.specs.Logged.{made};
 use crate::{Call, FRAME_ROOM, Noted};
 use receiver::{Answer, Heard, Millis, Receiver, Verdict};
 use seen::{Micros, numbers};
+use wire::Refusal;
 
 fn verdict_of(res: u64) -> Verdict
     ensures { result ≡ verdict_of res }
@@ -23,9 +24,8 @@ fn verdict_of(res: u64) -> Verdict
 fn answered(res: u64, next: Receiver, frame: usize) -> Noted
     ensures { result ≡ made (record { verdict = verdict_of res; next = next }) frame }
 {
-    let verdict = verdict_of(res);
     Noted {
-        verdict,
+        verdict: verdict_of(res),
         next,
         frame,
         line: 0,
@@ -35,18 +35,15 @@ fn answered(res: u64, next: Receiver, frame: usize) -> Noted
 fn plain(answer: Answer) -> Noted
     ensures { result ≡ made (heard_of answer) 0 }
 {
-    let next = answer.next;
-    answered(answer.result, next, 0)
+    answered(answer.result, answer.next, 0)
 }
 
 fn heard(answer: Heard) -> Noted
     ensures { result ≡ made answer 0 }
 {
-    let verdict = answer.verdict;
-    let next = answer.next;
     Noted {
-        verdict,
-        next,
+        verdict: answer.verdict,
+        next: answer.next,
         frame: 0,
         line: 0,
     }
@@ -56,10 +53,12 @@ fn heard(answer: Heard) -> Noted
 fn untimely(receiver: Receiver) -> Noted
     ensures { result ≡ made (record { verdict = pick (consistent receiver) (Verdict.Refused 5) (Verdict.Refused 1); next = receiver }) 0 }
 {
-    if receiver.consistent() {
-        return answered(5, receiver, 0);
-    }
-    answered(1, receiver, 0)
+    let refusal = if receiver.consistent() {
+        Refusal::TooLarge
+    } else {
+        Refusal::Inconsistent
+    };
+    answered(refusal.number(), receiver, 0)
 }
 
 // The same for an opening.
@@ -67,17 +66,13 @@ fn untimely_opening() -> Noted
     ensures { result ≡ made (record { verdict = Verdict.Refused 5; next = usual }) 0 }
 {
     let opened = Receiver::open(1, 1, Millis(25), Micros(1000));
-    let next = opened.next;
-    answered(5, next, 0)
+    answered(Refusal::TooLarge.number(), opened.next, 0)
 }
 
 fn acting(room: u64) -> usize
     ensures { (result ≡ acting room) × (result ≤ longest_frame) }
 {
-    if room < 1066 {
-        return room as usize;
-    }
-    FRAME_ROOM
+    room.min(FRAME_ROOM as u64) as usize
 }
 
 // The call on the record; a write's frame goes to the start of the buffer.
@@ -131,8 +126,7 @@ pub(crate) fn step(receiver: Receiver, time: Micros, call: Call, frame: &mut [u8
         Call::Write { kind, room } => {
             let end = acting(room);
             let wrote = receiver.write(time, kind, &mut frame[..end]);
-            let next = wrote.next;
-            answered(wrote.result, next, wrote.length as usize)
+            answered(wrote.result, wrote.next, wrote.length as usize)
         }
     }
 }

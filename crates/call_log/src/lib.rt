@@ -85,6 +85,6 @@ pub struct Noted {
     pub next: Receiver,
     // A write's frame takes so many bytes at the start of its buffer.
     pub frame: usize,
-    // The line takes so many bytes at the start of its buffer, 0 where nothing happened.
+    // The line takes so many bytes at the start of its buffer, 0 where nothing happened: the laws over logs name it so.
     pub line: usize,
 }

@@ -17,9 +17,10 @@ fn put_yes(buf: &mut [u8], at: usize, yes: bool) -> usize
     ensures { Laid buf.old at (yes_or_no yes) buf.new result × (result ≤ at + 5) }
 {
     if yes {
-        return put_text(buf, at, b"true");
+        put_text(buf, at, b"true")
+    } else {
+        put_text(buf, at, b"false")
     }
-    put_text(buf, at, b"false")
 }
 
 fn put_counts(buf: &mut [u8], at: usize, kind: Kind) -> usize
@@ -44,7 +45,7 @@ fn put_mark(buf: &mut [u8], at: usize, mark: Mark) -> usize
     }
 }
 
-// Four keys, each with a number.
+// Four keys, each with a number: as a list of pairs they would have to be taken apart in each clause.
 fn put_four(
     buf: &mut [u8],
     at: usize,
@@ -159,32 +160,11 @@ fn put_answer(buf: &mut [u8], at: usize, verdict: Verdict) -> usize
     }
 }
 
+#[tactic(auto, unfolding(crate::specs::Line::is_write))]
 fn is_write(call: Call) -> bool
     ensures { result ≡ is_write call }
 {
-    match call {
-        Call::Open {
-            threshold,
-            reordering,
-            maximum,
-            minimum,
-        } => false,
-        Call::Packet {
-            number,
-            eliciting,
-            mark,
-        } => false,
-        Call::Timer => false,
-        Call::Threshold {
-            sequence,
-            threshold,
-            delay,
-            reordering,
-        } => false,
-        Call::Immediate => false,
-        Call::Confirm { largest } => false,
-        Call::Write { kind, room } => true,
-    }
+    matches!(call, Call::Write { .. })
 }
 
 // A write's frame.

@@ -16,19 +16,14 @@ use seen::Micros;
 fn is_one(verdict: Verdict) -> bool
     ensures { result ≡ is_one verdict }
 {
-    match verdict {
-        Verdict::Accepted => false,
-        Verdict::Stale => false,
-        Verdict::Refused(refusal) => refusal == 1,
-    }
+    matches!(verdict, Verdict::Refused(1))
 }
 
 fn without_line(refusal: u64, kept: Receiver) -> Noted
     ensures { result ≡ record { verdict = Verdict.Refused refusal; next = kept; frame = 0; line = 0 } }
 {
-    let verdict = Verdict::Refused(refusal);
     Noted {
-        verdict,
+        verdict: Verdict::Refused(refusal),
         next: kept,
         frame: 0,
         line: 0,
@@ -98,8 +93,7 @@ pub fn logged(
     if frame.len() < length {
         return without_line(9, receiver);
     }
-    let next = noted.next;
-    let values = now_of(next);
+    let values = now_of(noted.next);
     let end = fit_line(line, time, call, verdict, &own[..length], values);
     if end == 0 {
         return without_line(9, receiver);

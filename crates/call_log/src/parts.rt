@@ -10,12 +10,9 @@ pub(crate) fn put_text(buf: &mut [u8], at: usize, text: &[u8]) -> usize
     requires { at + length text.now ≤ length buf.old }
     ensures { Laid buf.old at text.now buf.new result × (result ≤ at + length text.now) }
 {
-    let mut i: usize = 0;
-    while i < text.len() {
-        buf[at + i] = text[i];
-        i += 1;
-    }
-    at + i
+    let end = at + text.len();
+    buf[at..end].copy_from_slice(text);
+    end
 }
 
 // A number in decimal.
@@ -54,10 +51,7 @@ fn hex_digit(n: u8) -> u8
     requires { n < 16 }
     ensures { result ≡ hex_digit n }
 {
-    if n < 10 {
-        return 48 + n;
-    }
-    87 + n
+    if n < 10 { b'0' + n } else { b'a' - 10 + n }
 }
 
 // Bytes in hexadecimal.
@@ -66,14 +60,12 @@ pub(crate) fn put_hex(buf: &mut [u8], at: usize, bytes: &[u8]) -> usize
     ensures { Laid buf.old at (hex_text bytes.now) buf.new result × (result ≤ at + 2 * length bytes.now) }
 {
     let mut to = at;
-    let mut i: usize = 0;
-    while i < bytes.len() {
+    for i in 0..bytes.len() {
         let b = bytes[i];
         let next = to + 1;
         buf[to] = hex_digit(b / 16);
         buf[next] = hex_digit(b % 16);
         to += 2;
-        i += 1;
     }
     to
 }

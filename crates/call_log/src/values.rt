@@ -11,18 +11,15 @@ pub(crate) fn now_of(receiver: Receiver) -> Now
     ensures { result ≡ now_of receiver }
 {
     let agreed = receiver.agreed;
-    let seen = receiver.seen;
-    let pending = receiver.pending;
-    let delay = agreed.delay;
     Now {
         threshold: agreed.threshold,
         reordering: agreed.reordering,
-        delay,
+        delay: agreed.delay,
         sequence: agreed.sequence,
-        largest: seen.end,
-        floor: seen.floor(),
+        largest: receiver.seen.end,
+        floor: receiver.seen.floor(),
         acknowledged: receiver.acknowledged,
-        pending: pending.count,
+        pending: receiver.pending.count,
         cause: receiver.cause,
     }
 }
@@ -32,10 +29,9 @@ pub(crate) fn put_agreed(buf: &mut [u8], at: usize, values: Now) -> usize
     requires { at + 135 ≤ length buf.old }
     ensures { Laid buf.old at (agreed_text values []) buf.new result × (result ≤ at + 135) }
 {
-    let delay = values.delay;
     let a = put_field(buf, at, b",\"now\":{\"threshold\":", values.threshold);
     let b = put_field(buf, a, b",\"reordering\":", values.reordering);
-    let c = put_field(buf, b, b",\"delay\":", delay.0);
+    let c = put_field(buf, b, b",\"delay\":", values.delay.0);
     put_end(buf, c, b",\"sequence\":", values.sequence)
 }
 

@@ -44,6 +44,14 @@ unfolding places_of
 places-more zero h = absurd (omega arith)
 places-more (suc n) h = from_more n (suc n) h ∙ ap suc (steps-enough n (suc n / 10) (suc n / 10) (omega arith) (le_refl (suc n / 10)))
 
+-- the power of ten that n has just reached says how many
+pub places-power : (k n : ℕ) → 10 ^ k ≤ n → n < 10 * 10 ^ k → places_of n ≡ suc k
+places-power zero n h l = places-one n (omega arith)
+places-power (suc k) n h l =
+    let p : 10 ^ suc k ≡ 10 ^ k * 10 = pow-suc 10 k in
+    let q : 0 < 10 ^ k = one-le-pow k 10 (lit< tt) in
+    places-more n (omega arith) ∙ ap suc (places-power k (n / 10) (omega arith) (omega arith))
+
 pub places-some : (n : ℕ) → 0 < places_of n
 places-some n = elim (dec_le 10 n) [ yes g ↦ omega (arith, places-more n g) | no g ↦ omega (arith, places-one n (lt_of_not-le g)) ]
 

@@ -11,24 +11,28 @@ ghost use Rattle.decimal.specs.Decimal.{places_of, last_digits};
 pub fn places(n: u64) -> usize
     ensures { (result ≡ places_of n) × (result ≤ 20) }
 {
-    let mut count: usize = 1;
-    let mut rest = n;
-    while 10 <= rest {
-        rest = rest / 10;
-        count += 1;
+    match n.checked_ilog10() {
+        Some(power) => power as usize + 1,
+        None => 1,
     }
-    count
 }
 
-// Fills buf with the last digits of n.
+// Fills buf with the last digits of n, two at a time from the end.
+// It counts by hand: a `for` over pairs would leave the odd digit to a second loop, and one digit a turn takes twice the divisions.
 pub fn fill(buf: &mut [u8], n: u64)
     ensures { buf.new ≡ last_digits (length buf.old) n [] }
 {
     let mut rest = n;
     let mut i = buf.len();
-    while 0 < i {
-        i -= 1;
-        buf[i] = 48 + (rest % 10) as u8;
-        rest = rest / 10;
+    while 2 <= i {
+        let pair = (rest % 100) as u8;
+        let last = i - 1;
+        i -= 2;
+        buf[last] = b'0' + pair % 10;
+        buf[i] = b'0' + pair / 10;
+        rest /= 100;
+    }
+    if i == 1 {
+        buf[0] = b'0' + (rest % 10) as u8;
     }
 }

@@ -2,10 +2,10 @@
 -- Assumes nothing.
 use mathlib.Core.Path.{sym, ◌∙◌}
 use Rattle.wire.proofs.Only.{OneAnswer}
-use Rattle.ecn.proofs.given.mark_of.Reads as mark_of
-use Rattle.ecn.proofs.given.mark_of.Kinds as mark-of-kinds
-use Rattle.ecn.proofs.given.kind_of.Reads as kind-of
-use Rattle.ecn.proofs.given.kind_of.Kinds as kind-of-kinds
+use Rattle.ecn.proofs.given.MarkFromU64.from.Reads as mark_of
+use Rattle.ecn.proofs.given.MarkFromU64.from.Kinds as mark-of-kinds
+use Rattle.ecn.proofs.given.KindFromBool.from.Reads as kind-of
+use Rattle.ecn.proofs.given.KindFromBool.from.Kinds as kind-of-kinds
 use Rattle.ecn.proofs.Mark.is_ce.Reads as is-ce
 use Rattle.ecn.proofs.Mark.is_ce.Kinds as is-ce-kinds
 use Rattle.ecn.proofs.Totals.obey.Reads as obey

@@ -1,8 +1,7 @@
 -- "totals of accepted packets marked ECT(0), ECT(1) and CE, and of unmarked ones" (02, No. 2): what a packet counts, and the counts that an ACK tells.
-use Rattle.std.specs.Prelude.{ℕ, ◌+◌, min, Bool, true, false, ◌&&◌}
+use Rattle.std.specs.Prelude.{ℕ, ◌+◌, min, Bool, true, false, ◌&&◌, Option, Some, None}
 use Rattle.wire.specs.Numbers.{limit}
-use Rattle.frames.specs.declared.Tail.{Tail}
-use Rattle.frames.specs.declared.Tail.TheVariants.{Nothing, Counts}
+use Rattle.frames.specs.declared.Counts.{Counts}
 use Rattle.seen.specs.Numbers.{small}
 use Rattle.ecn.specs.declared.Mark.{Mark}
 use Rattle.ecn.specs.declared.Mark.TheVariants.{None, Ect0, Ect1, Ce}
@@ -52,6 +51,6 @@ totals_after t Ect1 = record { ect0 = t.ect0; ect1 = one_more t.ect1; ce = t.ce;
 totals_after t Ce = record { ect0 = t.ect0; ect1 = t.ect1; ce = one_more t.ce; unmarked = t.unmarked }
 
 -- "The caller chooses 02 or 03 at the write": the counts are the totals at that write
-abbrev pub tail_of : Kind → Totals → Tail
-tail_of Plain t = Nothing
-tail_of WithCounts t = Counts t.ect0 t.ect1 t.ce
+abbrev pub tail_of : Kind → Totals → Option Counts
+tail_of Plain t = None
+tail_of WithCounts t = Some (record { ect0 = t.ect0; ect1 = t.ect1; ce = t.ce })

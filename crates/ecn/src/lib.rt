@@ -5,10 +5,10 @@
 #![tactic(auto)]
 
 mod counts;
-pub mod given;
+mod given;
 
 // The ECN mark that a packet carried (RFC 3168), none being the fourth (02, No. 2).
-#[derive(Clone, Copy)]
+#[derive(Clone, Copy, PartialEq, Eq)]
 pub enum Mark {
     None,
     Ect0,
@@ -17,7 +17,7 @@ pub enum Mark {
 }
 
 // The ACK that the caller of write chose: type 02, or type 03 with the counts (RFC 9000 19.3.2).
-#[derive(Clone, Copy)]
+#[derive(Clone, Copy, PartialEq, Eq)]
 pub enum Kind {
     Plain,
     Counts,

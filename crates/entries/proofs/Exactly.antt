@@ -1,18 +1,19 @@
 -- The refusal table for entries, proved: each test of a definition is one side of its row.
 -- Assumes nothing.
-use Rattle.std.proofs.Common.{◌≡◌, ℕ, zero, suc, ◌+◌, ◌/◌, ◌%◌, ◌<◌, ◌≤◌, Bool, true, false, eqb, leb, List, length, sym, refl, ◌∙◌, subst, inl, inr, ⊎_elim, zero-le, zero-add, add-one, arith, length-drop, length-take, eqb-true, leb-false, leb-true}
+use Rattle.std.proofs.Common.{◌≡◌, ℕ, zero, suc, ◌+◌, ◌/◌, ◌%◌, ◌<◌, ◌≤◌, Bool, true, false, eqb, leb, List, Result, Ok, Err, length, sym, refl, ◌∙◌, subst, inl, inr, ⊎_elim, zero-le, zero-add, add-one, arith, length-drop, length-take, eqb-true, leb-false, leb-true}
 use borrow.Author.Tests.{eqb-false}
 use Rattle.wire.specs.Bytes.{pick}
 use Rattle.wire.proofs.Lengths.{split}
+use Rattle.wire.specs.Refusals.{refusal_number}
+use Rattle.wire.specs.declared.Refusal.{Refusal}
+use Rattle.wire.specs.declared.Refusal.TheVariants.{BrokenCount, BrokenEntry, OtherProfile}
 use Rattle.entries.specs.Limits.{entry_size, most_given}
 use Rattle.entries.specs.Profiles.{record_size, number_of, Other}
-use Rattle.entries.specs.Entries.{group_of, behind, object_of, record_at, entry_at, entry_by, at_or_above, follows, entries_good, entries_fault}
-use Rattle.entries.specs.Refusals.{entry_refusal}
+use Rattle.entries.specs.Entries.{group_of, behind, object_of, record_at, entry, entry_at, entry_by, at_or_above, follows, entries_good, entries_fault}
 use Rattle.entries.specs.Exactly.{Right, EndsBefore, There, EntryRows, EntryReads, Below, Obeys, EntriesJudged, FaultRows, FaultJudged}
 use Rattle.entries.specs.declared.Profile.{Profile}
 use Rattle.entries.specs.declared.Status.{Status}
 use Rattle.entries.specs.declared.Entry.{Entry}
-use Rattle.entries.specs.declared.Entry.TheVariants.{Record, Ends, Broken, OtherProfile}
 use Rattle.entries.proofs.Sizes.{step}
 use Rattle.entries.proofs.Profiles.{Which, known, other as unknown, which, of-known, of_other, in-this}
 use Rattle.entries.proofs.Order.{below, above-below, first_above}
@@ -37,7 +38,7 @@ module _ (profile : ℕ) (s : List ℕ) (i : ℕ) where
     there : entry_size ≤ length (behind p (record_at p s i)) → There p s i
     there h = let e = step (record_size p) i in omega (arith, simp (length-take, length-drop) at h)
 
-    rows : (e : Entry) → Verdict p (record_at p s i) e → EntryRows profile s i (entry_refusal e)
+    rows : (e : Result Entry Refusal) → Verdict p (record_at p s i) e → EntryRows profile s i (refusal_number e)
     rows e (short h) =
         let l = inside h in
         record {
@@ -75,9 +76,9 @@ module _ (profile : ℕ) (s : List ℕ) (i : ℕ) where
     others = inr (inr (inr (inl refl)));
   }
 
-  by-profile : Which profile → EntryRows profile s i (entry_refusal (entry_by profile s i))
-  by-profile (known p k) = rw (of-known profile OtherProfile (λ p. entry_at p s i) p k) (rows p k (entry_at p s i) (verdict p (record_at p s i)))
-  by-profile (unknown o) = rw (of_other profile OtherProfile (λ p. entry_at p s i) o) (no_rows o)
+  by-profile : Which profile → EntryRows profile s i (refusal_number (entry_by profile s i))
+  by-profile (known p k) = rw (of-known profile (Err OtherProfile) (λ p. entry_at p s i) p k) (rows p k (entry_at p s i) (verdict p (record_at p s i)))
+  by-profile (unknown o) = rw (of_other profile (Err OtherProfile) (λ p. entry_at p s i) o) (no_rows o)
 
 pub entry-reads : EntryReads
 entry-reads profile s i = by-profile profile s i (which profile)
@@ -106,32 +107,30 @@ rises-from p s zero group object f = first_above group object
 rises-from p s (suc j) group object f = above-below (group_of p (record_at p s j)) (object_of (behind p (record_at p s j))) group object (f j refl)
 
 -- what a record that is followed tells
-record Met (e : Entry) (last above : ℕ) (f : ℕ → ℕ → Bool) : Type 0 where
+record Met (e : Result Entry Refusal) (last above : ℕ) (f : ℕ → ℕ → Bool) : Type 0 where
   group : ℕ
   object : ℕ
   status : Status
   age : ℕ
-  entry : e ≡ Record group object status age
+  entry : e ≡ entry group object status age
   rises : at_or_above last above group object ≡ true
   rest : f group (suc object) ≡ true
 
-met : (e : Entry) (last above : ℕ) (f : ℕ → ℕ → Bool) → follows last above e f ≡ true → Met e last above f
-met (Record group object status age) last above f t = go (at_or_above last above group object) refl t
+met : (e : Result Entry Refusal) (last above : ℕ) (f : ℕ → ℕ → Bool) → follows last above e f ≡ true → Met e last above f
+met (Ok e) last above f t = go (at_or_above last above e.group e.object) refl t
   where
-    go : (b : Bool) → at_or_above last above group object ≡ b → pick b (f group (suc object)) false ≡ true → Met (Record group object status age) last above f
-    go true p t = record { group = group; object = object; status = status; age = age; entry = refl; rises = p; rest = t }
+    go : (b : Bool) → at_or_above last above e.group e.object ≡ b → pick b (f e.group (suc e.object)) false ≡ true → Met (Ok e) last above f
+    go true p t = record { group = e.group; object = e.object; status = e.status; age = e.age; entry = refl; rises = p; rest = t }
     go false p t = never t
-met Ends last above f t = never t
-met Broken last above f t = never t
-met OtherProfile last above f t = never t
+met (Err refusal) last above f t = never t
 
 module _ (p : Profile) (s : List ℕ) (n : ℕ) where
   -- what record i leaves, which is an entry
-  next-group : (i group object : ℕ) (status : Status) (age : ℕ) → entry_at p s i ≡ Record group object status age → group ≡ group_before p s (i + 1)
+  next-group : (i group object : ℕ) (status : Status) (age : ℕ) → entry_at p s i ≡ entry group object status age → group ≡ group_before p s (i + 1)
   unfolding group_before
   next-group i group object status age e = let k = key-is p (record_at p s i) (entry_at p s i) group object status age e refl in rw (add-one, k.group)
 
-  next-object : (i group object : ℕ) (status : Status) (age : ℕ) → entry_at p s i ≡ Record group object status age → suc object ≡ object_before p s (i + 1)
+  next-object : (i group object : ℕ) (status : Status) (age : ℕ) → entry_at p s i ≡ entry group object status age → suc object ≡ object_before p s (i + 1)
   unfolding object_before
   next-object i group object status age e = let k = key-is p (record_at p s i) (entry_at p s i) group object status age e refl in rw (add-one, k.object)
 
@@ -162,11 +161,15 @@ entries-judged p s =
 
 -- ---- the records handed to a writer
 
+-- the judgement by its three tests
+abbrev fault : Bool → Bool → Bool → Result Unit Refusal
+fault a b c = pick a (pick b (pick c (Ok tt) (Err BrokenEntry)) (Err BrokenCount)) (Err BrokenEntry)
+
 pub fault-judged : FaultJudged
 unfolding entries_fault
 fault-judged p s = go (eqb (length s % record_size p) 0) (leb (length s / record_size p) most_given) (entries_good p s) refl refl refl
   where
-    go : (a b c : Bool) → eqb (length s % record_size p) 0 ≡ a → leb (length s / record_size p) most_given ≡ b → entries_good p s ≡ c → FaultRows p s (pick a (pick b (pick c 0 12) 10) 12)
+    go : (a b c : Bool) → eqb (length s % record_size p) 0 ≡ a → leb (length s / record_size p) most_given ≡ b → entries_good p s ≡ c → FaultRows p s (refusal_number (fault a b c))
     go true true true o q r =
         let e = eqb-true (length s % record_size p) 0 o in
         let l = leb-true (length s / record_size p) most_given q in

@@ -1,6 +1,7 @@
 -- The last of good records are good: record i of them is a later record of the whole.
 -- Assumes nothing.
-use Rattle.std.proofs.Common.{◌≡◌, ℕ, ◌+◌, ◌-◌, ◌*◌, ◌/◌, ◌<◌, true, List, length, drop, ap, ◌∙◌, arith, length-drop, drop-drop}
+use Rattle.std.proofs.Common.{◌≡◌, ℕ, ◌+◌, ◌-◌, ◌*◌, ◌/◌, ◌<◌, true, List, Ok, length, drop, ap, ◌∙◌, arith, length-drop, drop-drop}
+use Rattle.wire.specs.Refusals.{refusal_number}
 use Rattle.entries.specs.Profiles.{record_size}
 use Rattle.entries.specs.Entries.{record_at, entry_of, entries_good, entries_fault}
 use Rattle.entries.specs.Fitting.{last_of}
@@ -30,7 +31,7 @@ module _ (p : Profile) (s : List ℕ) where
           }
 
   -- the last k of records that bring no refusal
-  pub last-good : (k : ℕ) → entries_fault p s ≡ 0 → entries_good p (last_of p s k) ≡ true
+  pub last-good : (k : ℕ) → entries_fault p s ≡ Ok tt → entries_good p (last_of p s k) ≡ true
   last-good k e =
-      let f = (fault-judged p s).accepted.0 e in
+      let f = (fault-judged p s).accepted.0 (ap refusal_number e) in
       rw (before_last (record_size p) (sized p) (length s) k f.even) (later-good (length s / record_size p - k) f.good)

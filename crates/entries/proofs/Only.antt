@@ -18,8 +18,8 @@ use Rattle.entries.proofs.record_size.Reads as record-size
 use Rattle.entries.proofs.record_size.Kinds as record-size-kinds
 use Rattle.entries.proofs.records_in.Reads as records-in
 use Rattle.entries.proofs.records_in.Kinds as records-in-kinds
-use Rattle.entries.proofs.Entry.refusal.Reads as entry-refusal
-use Rattle.entries.proofs.Entry.refusal.Kinds as entry-refusal-kinds
+use Rattle.entries.proofs.Status.number.Reads as status-number
+use Rattle.entries.proofs.Status.number.Kinds as status-number-kinds
 use Rattle.entries.proofs.one.entry_of.Reads as entry_of
 use Rattle.entries.proofs.one.entry_of.Kinds as entry-of-kinds
 
@@ -41,9 +41,6 @@ entries-fault-one κs given x y s t p q = p ∙ sym q
 pub fitting-one : OneAnswer 0 fitting-kinds.ps fitting-kinds.r fitting.Post
 fitting-one κs given x y s t p q = p ∙ sym q
 
-pub entry-refusal-one : OneAnswer 0 entry-refusal-kinds.ps entry-refusal-kinds.r entry-refusal.Post
-entry-refusal-one κs given x y s t p q = p ∙ sym q
-
 pub record-size-one : OneAnswer 0 record-size-kinds.ps record-size-kinds.r record-size.Post
 record-size-one κs given x y s t p q = p ∙ sym q
 
@@ -52,3 +49,6 @@ records-in-one κs given x y s t p q = p ∙ sym q
 
 pub entry-of-one : OneAnswer 1 entry-of-kinds.ps entry-of-kinds.r entry_of.Post
 entry-of-one κs given x y s t p q = p ∙ sym q
+
+pub status-number-one : OneAnswer 0 status-number-kinds.ps status-number-kinds.r status-number.Post
+status-number-one κs given x y s t p q = p ∙ sym q

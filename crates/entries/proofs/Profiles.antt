@@ -1,8 +1,11 @@
 -- The number that the caller passes is that of one profile, or of none.
 -- Assumes nothing.
-use Rattle.std.proofs.Common.{◌≡◌, ℕ, ◌<◌, ◌≤◌, Bool, true, false, eqb, sym, refl, ◌∙◌, arith, ne_eqb, eqb-true}
+use Rattle.std.proofs.Common.{◌≡◌, ℕ, ◌<◌, ◌≤◌, Bool, true, false, Result, Ok, Err, eqb, sym, refl, ◌∙◌, arith, ne_eqb, eqb-true}
 use borrow.Author.Tests.{eqb-false}
-use Rattle.entries.specs.Profiles.{record_size, of_profile, number_of, Other, In}
+use Rattle.wire.specs.Bytes.{pick}
+use Rattle.wire.specs.declared.Refusal.{Refusal}
+use Rattle.wire.specs.declared.Refusal.TheVariants.{OtherProfile}
+use Rattle.entries.specs.Profiles.{record_size, of_profile, profile_by, number_of, Other, In}
 use Rattle.entries.specs.declared.Profile.{Profile}
 use Rattle.entries.specs.declared.Profile.TheVariants.{One, Two}
 
@@ -29,6 +32,33 @@ module _ {R : Type 0} (n : ℕ) (r : R) (f : Profile → R) where
 
   pub of_other : Other n → of_profile n r f ≡ r
   of_other o = rw (ne_eqb n 1 (o One), ne_eqb n 2 (o Two))
+
+  -- x is what the code has of the profile
+  module _ (x : Result Profile Refusal) (e : x ≡ profile_by n) where
+    pub by-known : (p : Profile) → x ≡ Ok p → f p ≡ of_profile n r f
+    by-known p t = go (eqb n 1) (eqb n 2) (sym e ∙ t)
+      where
+        go : (a b : Bool) → pick a (Ok One) (pick b (Ok Two) (Err OtherProfile)) ≡ Ok p → f p ≡ pick a (f One) (pick b (f Two) r)
+        go true b q = let k : One ≡ p = cc in rw k
+        go false true q = let k : Two ≡ p = cc in rw k
+        go false false q = let z : ◌≡◌ {A = ℕ} 0 1 = cc in absurd (omega arith)
+
+    pub by-other : (d : Refusal) → x ≡ Err d → r ≡ of_profile n r f
+    by-other d t = go (eqb n 1) (eqb n 2) (sym e ∙ t)
+      where
+        go : (a b : Bool) → pick a (Ok One) (pick b (Ok Two) (Err OtherProfile)) ≡ Err d → r ≡ pick a (f One) (pick b (f Two) r)
+        go true b q = let z : ◌≡◌ {A = ℕ} 0 1 = cc in absurd (omega arith)
+        go false true q = let z : ◌≡◌ {A = ℕ} 0 1 = cc in absurd (omega arith)
+        go false false q = refl
+
+-- the refusal of a number that is no profile's
+pub other-is : (n : ℕ) (x : Result Profile Refusal) → x ≡ profile_by n → (d : Refusal) → x ≡ Err d → d ≡ OtherProfile
+other-is n x e d t = go (eqb n 1) (eqb n 2) (sym e ∙ t)
+  where
+    go : (a b : Bool) → pick a (Ok One) (pick b (Ok Two) (Err OtherProfile)) ≡ Err d → d ≡ OtherProfile
+    go true b q = let z : ◌≡◌ {A = ℕ} 0 1 = cc in absurd (omega arith)
+    go false true q = let z : ◌≡◌ {A = ℕ} 0 1 = cc in absurd (omega arith)
+    go false false q = cc
 
 -- what holds in the number's profile holds in this one, if the number is its own
 pub in-this : (n : ℕ) (P : Profile → Type 0) (p : Profile) → n ≡ number_of p → In n P → P p

@@ -1,9 +1,11 @@
 -- Records in a row: the rule from one record to the next, and what an entry that was accepted tells.
 -- Assumes nothing.
-use Rattle.std.proofs.Common.{◌≡◌, ℕ, suc, ◌+◌, ◌-◌, ◌*◌, ◌/◌, ◌%◌, ◌<◌, ◌≤◌, Bool, true, List, length, drop, sym, ap, ◌∙◌, div-add-mod', zero-mul, div-mul-le_self, arith, drop-drop, eq-eqb, ne_eqb, le-leb}
+use Rattle.std.proofs.Common.{◌≡◌, ℕ, suc, ◌+◌, ◌-◌, ◌*◌, ◌/◌, ◌%◌, ◌<◌, ◌≤◌, Bool, true, List, Result, Ok, Err, length, drop, sym, ap, ◌∙◌, div-add-mod', zero-mul, div-mul-le_self, arith, drop-drop, eq-eqb, ne_eqb, le-leb}
 use native.Mathlib.Nat.{mul-mod_left}
 use borrow.Author.Tests.{lt-leb}
 use Rattle.wire.specs.Bytes.{pick}
+use Rattle.wire.specs.declared.Refusal.{Refusal}
+use Rattle.wire.specs.declared.Refusal.TheVariants.{BrokenCount, BrokenEntry}
 use Rattle.entries.specs.Limits.{most_given}
 use Rattle.entries.specs.Profiles.{record_size}
 use Rattle.entries.specs.Entries.{entry_at, follows, records_good, entries_good, entries_fault}
@@ -41,7 +43,7 @@ module _ (p : Profile) (s : List ℕ) (n : ℕ) (m : n ≡ length s / record_siz
     pub no_more : n * size ≤ length s
     no_more = rw (e, m) (div-mul-le_self (length s) (record_size p))
 
-    pub fault-ragged : (n * size ≡ length s → ⊥) → 12 ≡ entries_fault p s
+    pub fault-ragged : (n * size ≡ length s → ⊥) → Err BrokenEntry ≡ entries_fault p s
     unfolding entries_fault
     fault-ragged h =
         let r : length s % record_size p ≡ 0 → ⊥ = λ z. h (rw (e, m) (omega (arith, div-add-mod' (length s) (record_size p)))) in
@@ -51,12 +53,12 @@ module _ (p : Profile) (s : List ℕ) (n : ℕ) (m : n ≡ length s / record_siz
       even : length s % record_size p ≡ 0
       even = ap (λ (k : ℕ). k % record_size p) (sym h) ∙ rw e (mul-mod_left n (record_size p))
 
-      pub fault-many : most_given < n → 10 ≡ entries_fault p s
+      pub fault-many : most_given < n → Err BrokenCount ≡ entries_fault p s
       unfolding entries_fault
       fault-many l = rw (eq-eqb (length s % record_size p) 0 even, ← m, lt-leb n most_given l)
 
-      pub fault-records : n ≤ most_given → (g : Bool) → g ≡ entries_good p s → pick g 0 12 ≡ entries_fault p s
+      pub fault-records : n ≤ most_given → (g : Bool) → g ≡ entries_good p s → pick g (Ok tt) (Err BrokenEntry) ≡ entries_fault p s
       unfolding entries_fault
       fault-records l g f =
           let k : length s / record_size p ≤ most_given = rw m at l in
-          ap (λ (b : Bool). pick b 0 12) f ∙ rw (eq-eqb (length s % record_size p) 0 even, le-leb (length s / record_size p) most_given k)
+          ap (λ (b : Bool). pick {A = Result Unit Refusal} b (Ok tt) (Err BrokenEntry)) f ∙ rw (eq-eqb (length s % record_size p) 0 even, le-leb (length s / record_size p) most_given k)

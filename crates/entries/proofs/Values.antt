@@ -1,54 +1,46 @@
 -- A record that is an entry is known by its values: its bytes are those of its group, its object number, its status above three zero bytes, and its age.
 -- Assumes nothing.
-use Rattle.std.proofs.Common.{◌≡◌, ℕ, zero, suc, ◌+◌, ◌*◌, ◌<◌, ◌≤◌, Bool, true, false, eqb, leb, List, [], ◌++◌, length, take, drop, sym, refl, ap, ◌∙◌, ap₂, zero-mul, arith, length-drop, take-append-drop, drop_of_length-le, length-take-le, get_or-drop, drop-drop, eqb-true}
+use Rattle.std.proofs.Common.{◌≡◌, ℕ, zero, suc, ◌+◌, ◌*◌, ◌<◌, ◌≤◌, Bool, true, false, eqb, leb, List, [], ◌++◌, Err, length, take, drop, sym, refl, ap, ◌∙◌, ap₂, zero-mul, arith, length-drop, take-append-drop, drop_of_length-le, length-take-le, get_or-drop, drop-drop, eqb-true}
 use Rattle.wire.specs.Bytes.{pick, be, Octets}
 use Rattle.wire.specs.Numbers.{limit}
 use Rattle.wire.proofs.Bytes.{be-one, octets-part}
+use Rattle.wire.specs.declared.Refusal.TheVariants.{Ends, BrokenEntry}
 use Rattle.entries.specs.Limits.{entry_size}
 use Rattle.entries.specs.Profiles.{group_bytes, record_size}
-use Rattle.entries.specs.Entries.{group_of, behind, object_of, status_of, zeros_of, age_of, with_status, age_good, entry_from, entry_behind, entry_of, record_at, entry_at}
+use Rattle.entries.specs.Entries.{group_of, behind, object_of, status_of, zeros_of, age_of, status_number, entry, with_status, age_good, entry_from, entry_behind, entry_of, record_at, entry_at}
 use Rattle.entries.specs.Exactly.{Obeys}
 use Rattle.entries.specs.declared.Profile.{Profile}
 use Rattle.entries.specs.declared.Status.{Status}
 use Rattle.entries.specs.declared.Status.TheVariants.{Received, Late, NotReceived, Partial}
-use Rattle.entries.specs.declared.Entry.TheVariants.{Record, Ends, Broken}
 use Rattle.entries.proofs.Sizes.{step, whole-many}
 use Rattle.entries.proofs.Profiles.{sized}
 use Rattle.entries.proofs.Fields.{record-long, mark-is}
+use Rattle.entries.proofs.Verdicts.{same-values}
 
 -- ---- what an entry tells of its bytes
-
-abbrev byte_of : Status → ℕ
-byte_of Received = 0
-byte_of Late = 1
-byte_of NotReceived = 2
-byte_of Partial = 3
 
 -- fields that make an entry are its values
 record Told (group object status zeros age g o : ℕ) (x : Status) (a : ℕ) : Type 0 where
   group-is : group ≡ g
   object-is : object ≡ o
-  status-is : status ≡ byte_of x
+  status-is : status ≡ status_number x
   zeros-are : zeros ≡ 0
   age-is : age ≡ a
 
 module _ (group object status zeros age g o : ℕ) (x : Status) (a : ℕ) where
-  one-status : (y : Status) → status ≡ byte_of y → zeros ≡ 0 → Record group object y age ≡ Record g o x a → Told group object status zeros age g o x a
+  one-status : (y : Status) → status ≡ status_number y → zeros ≡ 0 → entry group object y age ≡ entry g o x a → Told group object status zeros age g o x a
   one-status y s z e =
-      let i : group ≡ g = cc in
-      let j : object ≡ o = cc in
-      let k : y ≡ x = cc in
-      let l : age ≡ a = cc in
-      record { group-is = i; object-is = j; status-is = s ∙ ap byte_of k; zeros-are = z; age-is = l }
+      let v = same-values group object y age g o x a e in
+      record { group-is = v.group; object-is = v.object; status-is = s ∙ ap status_number v.status; zeros-are = z; age-is = v.age }
 
-  broken : Broken ≡ Record g o x a → Told group object status zeros age g o x a
+  broken : Err BrokenEntry ≡ entry g o x a → Told group object status zeros age g o x a
   broken e = let z : ◌≡◌ {A = ℕ} 0 1 = cc in absurd (omega arith)
 
-  by-status : zeros ≡ 0 → with_status group object status age ≡ Record g o x a → Told group object status zeros age g o x a
+  by-status : zeros ≡ 0 → with_status group object status age ≡ entry g o x a → Told group object status zeros age g o x a
   by-status z e = go (eqb status 0) (eqb status 1) (eqb status 2) (eqb status 3) refl refl refl refl e
     where
       go : (k l m n : Bool) → eqb status 0 ≡ k → eqb status 1 ≡ l → eqb status 2 ≡ m → eqb status 3 ≡ n
-          → pick k (Record group object Received age) (pick l (Record group object Late age) (pick m (Record group object NotReceived age) (pick n (Record group object Partial age) Broken))) ≡ Record g o x a
+          → pick k (entry group object Received age) (pick l (entry group object Late age) (pick m (entry group object NotReceived age) (pick n (entry group object Partial age) (Err BrokenEntry)))) ≡ entry g o x a
           → Told group object status zeros age g o x a
       go true l m n t u v w e = one-status Received (eqb-true status 0 t) z e
       go false true m n t u v w e = one-status Late (eqb-true status 1 u) z e
@@ -56,11 +48,11 @@ module _ (group object status zeros age g o : ℕ) (x : Status) (a : ℕ) where
       go false false false true t u v w e = one-status Partial (eqb-true status 3 w) z e
       go false false false false t u v w e = broken e
 
-  by-fields : entry_from group object status zeros age ≡ Record g o x a → Told group object status zeros age g o x a
+  by-fields : entry_from group object status zeros age ≡ entry g o x a → Told group object status zeros age g o x a
   unfolding entry_from
   by-fields e = go (leb group limit) (leb object limit) (eqb zeros 0) (age_good status age) refl e
     where
-      go : (k l m n : Bool) → eqb zeros 0 ≡ m → pick k (pick l (pick m (pick n (with_status group object status age) Broken) Broken) Broken) Broken ≡ Record g o x a
+      go : (k l m n : Bool) → eqb zeros 0 ≡ m → pick k (pick l (pick m (pick n (with_status group object status age) (Err BrokenEntry)) (Err BrokenEntry)) (Err BrokenEntry)) (Err BrokenEntry) ≡ entry g o x a
           → Told group object status zeros age g o x a
       go true true true true t e = by-status (eqb-true zeros 0 t) e
       go true true true false t e = broken e
@@ -68,7 +60,7 @@ module _ (group object status zeros age g o : ℕ) (x : Status) (a : ℕ) where
       go true false m n t e = broken e
       go false l m n t e = broken e
 
-told : (p : Profile) (b : List ℕ) (g o : ℕ) (x : Status) (a : ℕ) → entry_of p b ≡ Record g o x a
+told : (p : Profile) (b : List ℕ) (g o : ℕ) (x : Status) (a : ℕ) → entry_of p b ≡ entry g o x a
     → Told (group_of p b) (object_of (behind p b)) (status_of (behind p b)) (zeros_of (behind p b)) (age_of (behind p b)) g o x a
 unfolding entry_behind
 told p b g o x a e = go (leb entry_size (length c)) e
@@ -76,7 +68,7 @@ told p b g o x a e = go (leb entry_size (length c)) e
     c : List ℕ
     c = behind p b
 
-    go : (k : Bool) → pick k (entry_from (group_of p b) (object_of c) (status_of c) (zeros_of c) (age_of c)) Ends ≡ Record g o x a
+    go : (k : Bool) → pick k (entry_from (group_of p b) (object_of c) (status_of c) (zeros_of c) (age_of c)) (Err Ends) ≡ entry g o x a
         → Told (group_of p b) (object_of c) (status_of c) (zeros_of c) (age_of c) g o x a
     go true e = by-fields (group_of p b) (object_of c) (status_of c) (zeros_of c) (age_of c) g o x a e
     go false e = let z : ◌≡◌ {A = ℕ} 0 1 = cc in absurd (omega arith)
@@ -108,7 +100,7 @@ behind-same b c o q h l i j k m =
 
 -- as many bytes that are the same entry are the same bytes
 record_same : (p : Profile) (b c : List ℕ) → Octets b → Octets c → length b ≡ record_size p → length c ≡ record_size p → (g o : ℕ) (x : Status) (a : ℕ)
-    → entry_of p b ≡ Record g o x a → entry_of p c ≡ Record g o x a → b ≡ c
+    → entry_of p b ≡ entry g o x a → entry_of p c ≡ entry g o x a → b ≡ c
 record_same p b c o q h l g n x a e f =
     let i = told p b g n x a e in
     let j = told p c g n x a f in

@@ -1,12 +1,14 @@
 -- What one record comes to: too few bytes, a broken rule, or an entry with the object number and the age of its bytes.
 -- Assumes nothing.
-use Rattle.std.proofs.Common.{◌≡◌, ℕ, zero, suc, ◌<◌, ◌≤◌, Bool, true, false, eqb, leb, List, length, sym, refl, ◌∙◌, arith, eq-eqb, eqb-true, le-leb, leb-false, leb-true}
+use Rattle.std.proofs.Common.{◌≡◌, ℕ, zero, suc, ◌<◌, ◌≤◌, Bool, true, false, eqb, leb, List, Option, Some, None, Result, Err, length, sym, refl, ap, ◌∙◌, arith, eq-eqb, eqb-true, le-leb, leb-false, leb-true}
 use borrow.Author.Tests.{lt-leb, eqb-false}
 use Rattle.wire.specs.Bytes.{pick}
 use Rattle.wire.specs.Numbers.{limit}
 use Rattle.wire.proofs.Lengths.{split}
+use Rattle.wire.specs.declared.Refusal.{Refusal}
+use Rattle.wire.specs.declared.Refusal.TheVariants.{Ends, BrokenEntry}
 use Rattle.entries.specs.Limits.{entry_size}
-use Rattle.entries.specs.Entries.{group_of, behind, object_of, status_of, zeros_of, age_of, with_status, age_good, entry_from, entry_behind, entry_of}
+use Rattle.entries.specs.Entries.{group_of, behind, object_of, status_of, zeros_of, age_of, entry, with_status, age_good, entry_from, entry_behind, entry_of}
 use Rattle.entries.specs.Steps.{next_of}
 use Rattle.entries.specs.Exactly.{Right}
 use Rattle.entries.specs.declared.Profile.{Profile}
@@ -14,14 +16,27 @@ use Rattle.entries.specs.declared.Profile.TheVariants.{One}
 use Rattle.entries.specs.declared.Status.{Status}
 use Rattle.entries.specs.declared.Status.TheVariants.{Received, Late, NotReceived, Partial}
 use Rattle.entries.specs.declared.Entry.{Entry}
-use Rattle.entries.specs.declared.Entry.TheVariants.{Record, Ends, Broken}
-use Rattle.entries.specs.declared.Next.{Next}
-use Rattle.entries.specs.declared.Next.TheVariants.{From, Stop}
 
-pub data Verdict (p : Profile) (b : List ℕ) : Entry → Type 0 where
-  short : length (behind p b) < entry_size → Verdict p b Ends
-  wrong : entry_size ≤ length (behind p b) → (Right p b → ⊥) → Verdict p b Broken
-  right : {status : Status} → entry_size ≤ length (behind p b) → Right p b → Verdict p b (Record (group_of p b) (object_of (behind p b)) status (age_of (behind p b)))
+pub data Verdict (p : Profile) (b : List ℕ) : Result Entry Refusal → Type 0 where
+  short : length (behind p b) < entry_size → Verdict p b (Err Ends)
+  wrong : entry_size ≤ length (behind p b) → (Right p b → ⊥) → Verdict p b (Err BrokenEntry)
+  right : {status : Status} → entry_size ≤ length (behind p b) → Right p b → Verdict p b (entry (group_of p b) (object_of (behind p b)) status (age_of (behind p b)))
+
+-- two entries that are the same have the same values
+pub record Values (g o : ℕ) (x : Status) (a g' o' : ℕ) (x' : Status) (a' : ℕ) : Type 0 where
+  pub group : g ≡ g'
+  pub object : o ≡ o'
+  pub status : x ≡ x'
+  pub age : a ≡ a'
+
+pub same-values : (g o : ℕ) (x : Status) (a g' o' : ℕ) (x' : Status) (a' : ℕ) → entry g o x a ≡ entry g' o' x' a' → Values g o x a g' o' x' a'
+same-values g o x a g' o' x' a' e = record { group = ap (λ (r : Entry). r.group) k; object = ap (λ (r : Entry). r.object) k; status = ap (λ (r : Entry). r.status) k; age = ap (λ (r : Entry). r.age) k }
+  where
+    made : ℕ → ℕ → Status → ℕ → Entry
+    made g o x a = record { group = g; object = o; status = x; age = a }
+
+    k : made g o x a ≡ made g' o' x' a'
+    k = cc
 
 -- the test of the age is the rule
 age-rule : (status age : ℕ) → age_good status age ≡ true → status ≡ 2 → age ≡ 0
@@ -55,7 +70,7 @@ module _ (p : Profile) (b : List ℕ) (h : entry_size ≤ length (behind p b)) w
       fine l = record { group = i; object = o; status = l; zeros = z; age = age-rule (status_of c) (age_of c) a }
 
       go : (x y r t : Bool) → eqb (status_of c) 0 ≡ x → eqb (status_of c) 1 ≡ y → eqb (status_of c) 2 ≡ r → eqb (status_of c) 3 ≡ t
-          → Verdict p b (pick x (Record g (object_of c) Received (age_of c)) (pick y (Record g (object_of c) Late (age_of c)) (pick r (Record g (object_of c) NotReceived (age_of c)) (pick t (Record g (object_of c) Partial (age_of c)) Broken))))
+          → Verdict p b (pick x (entry g (object_of c) Received (age_of c)) (pick y (entry g (object_of c) Late (age_of c)) (pick r (entry g (object_of c) NotReceived (age_of c)) (pick t (entry g (object_of c) Partial (age_of c)) (Err BrokenEntry)))))
       go true y r t e f k l = right h (fine (omega (arith, eqb-true (status_of c) 0 e)))
       go false true r t e f k l = right h (fine (omega (arith, eqb-true (status_of c) 1 f)))
       go false false true t e f k l = right h (fine (omega (arith, eqb-true (status_of c) 2 k)))
@@ -68,7 +83,7 @@ module _ (p : Profile) (b : List ℕ) (h : entry_size ≤ length (behind p b)) w
   rules = go (leb g limit) (leb (object_of c) limit) (eqb (zeros_of c) 0) (age_good (status_of c) (age_of c)) refl refl refl refl
     where
       go : (x y z r : Bool) → leb g limit ≡ x → leb (object_of c) limit ≡ y → eqb (zeros_of c) 0 ≡ z → age_good (status_of c) (age_of c) ≡ r
-          → Verdict p b (pick x (pick y (pick z (pick r (with_status g (object_of c) (status_of c) (age_of c)) Broken) Broken) Broken) Broken)
+          → Verdict p b (pick x (pick y (pick z (pick r (with_status g (object_of c) (status_of c) (age_of c)) (Err BrokenEntry)) (Err BrokenEntry)) (Err BrokenEntry)) (Err BrokenEntry))
       go true true true true d e f a = statuses (leb-true g limit d) (leb-true (object_of c) limit e) (eqb-true (zeros_of c) 0 f) a
       go true true true false d e f a = wrong h (λ x. age-broken (status_of c) (age_of c) a x.age)
       go true true false r d e f a = wrong h (λ x. eqb-false (zeros_of c) 0 f x.zeros)
@@ -88,26 +103,25 @@ pub record Known (p : Profile) (b : List ℕ) (g o : ℕ) : Type 0 where
   pub object : object_of (behind p b) ≡ o
   pub small : o ≤ limit
 
-pub key-is : (p : Profile) (b : List ℕ) (e : Entry) (group object : ℕ) (status : Status) (age : ℕ) → e ≡ Record group object status age → e ≡ entry_of p b → Known p b group object
+pub key-is : (p : Profile) (b : List ℕ) (e : Result Entry Refusal) (group object : ℕ) (status : Status) (age : ℕ) → e ≡ entry group object status age → e ≡ entry_of p b → Known p b group object
 key-is p b e group object status age t f = go (entry_of p b) (verdict p b) (sym f ∙ t)
   where
-    go : (x : Entry) → Verdict p b x → x ≡ Record group object status age → Known p b group object
+    go : (x : Result Entry Refusal) → Verdict p b x → x ≡ entry group object status age → Known p b group object
     go x (short h) e = let z : ◌≡◌ {A = ℕ} 0 1 = cc in absurd (omega arith)
     go x (wrong h n) e = let z : ◌≡◌ {A = ℕ} 0 1 = cc in absurd (omega arith)
     go x (right h r) e =
-        let g : group_of p b ≡ group = cc in
-        let o : object_of (behind p b) ≡ object = cc in
-        record { group = g; object = o; small = omega (arith, r.object) }
+        let v = same-values _ _ _ _ group object status age e in
+        record { group = v.group; object = v.object; small = omega (arith, r.object, v.object) }
 
 -- what an entry leaves to the next is not far above the limit
-pub next_small : (floor : ℕ) (b : List ℕ) (x : Next) (m : ℕ) → x ≡ next_of floor (entry_behind 0 b) → x ≡ From m → m ≤ suc limit
+pub next_small : (floor : ℕ) (b : List ℕ) (x : Option ℕ) (m : ℕ) → x ≡ next_of floor (entry_behind 0 b) → x ≡ Some m → m ≤ suc limit
 next_small floor b x m f t = go (entry_behind 0 b) (verdict One b) (sym f ∙ t)
   where
-    go : (y : Entry) → Verdict One b y → next_of floor y ≡ From m → m ≤ suc limit
+    go : (y : Result Entry Refusal) → Verdict One b y → next_of floor y ≡ Some m → m ≤ suc limit
     go y (short h) e = let z : ◌≡◌ {A = ℕ} 0 1 = cc in absurd (omega arith)
     go y (wrong h n) e = let z : ◌≡◌ {A = ℕ} 0 1 = cc in absurd (omega arith)
     go y (right h r) e = it (leb floor (object_of b)) e
       where
-        it : (l : Bool) → pick l (From (suc (object_of b))) Stop ≡ From m → m ≤ suc limit
+        it : (l : Bool) → pick l (Some (suc (object_of b))) None ≡ Some m → m ≤ suc limit
         it true q = let k : m ≡ suc (object_of b) = cc in omega (arith, r.object)
         it false q = let z : ◌≡◌ {A = ℕ} 0 1 = cc in absurd (omega arith)

@@ -1,13 +1,15 @@
 -- "An entry": a record of 16 bytes, in profile 2 behind its group, and the rule of records one after the other.
-use Rattle.std.specs.Prelude.{ℕ, zero, suc, ◌*◌, ◌/◌, ◌%◌, Bool, true, false, List, length, take, drop, ◌==◌, nat_le, nat_lt, slice_index}
+use Rattle.std.specs.Prelude.{ℕ, zero, suc, ◌*◌, ◌/◌, ◌%◌, Bool, true, false, List, Result, Ok, Err, length, take, drop, ◌==◌, nat_le, nat_lt, slice_index}
 use Rattle.wire.specs.Bytes.{pick, be}
 use Rattle.wire.specs.Numbers.{limit}
+use Rattle.wire.specs.declared.Refusal.{Refusal}
+use Rattle.wire.specs.declared.Refusal.TheVariants.{Ends, BrokenCount, BrokenEntry, OtherProfile}
 use Rattle.entries.specs.Limits.{entry_size, most_given}
 use Rattle.entries.specs.Profiles.{group_bytes, record_size, of_profile}
 use Rattle.entries.specs.declared.Profile.{Profile}
+use Rattle.entries.specs.declared.Status.{Status}
 use Rattle.entries.specs.declared.Status.TheVariants.{Received, Late, NotReceived, Partial}
 use Rattle.entries.specs.declared.Entry.{Entry}
-use Rattle.entries.specs.declared.Entry.TheVariants.{Record, Ends, Broken, OtherProfile}
 
 -- ---- one entry
 
@@ -36,43 +38,54 @@ abbrev pub age_of : List ℕ → ℕ
 age_of b = be 0 (take 4 (drop 12 b))
 
 -- "0 received, 1 late, 2 not received, 3 partial"
-abbrev pub with_status : ℕ → ℕ → ℕ → ℕ → Entry
+abbrev pub status_number : Status → ℕ
+status_number Received = 0
+status_number Late = 1
+status_number NotReceived = 2
+status_number Partial = 3
+
+-- an entry that obeys its rule
+abbrev pub entry : ℕ → ℕ → Status → ℕ → Result Entry Refusal
+entry group object status age = Ok (record { group = group; object = object; status = status; age = age })
+
+-- the entry with the status that has the number
+abbrev pub with_status : ℕ → ℕ → ℕ → ℕ → Result Entry Refusal
 with_status group object status age =
-    pick (status == 0) (Record group object Received age)
-    (pick (status == 1) (Record group object Late age)
-    (pick (status == 2) (Record group object NotReceived age)
-    (pick (status == 3) (Record group object Partial age) Broken)))
+    pick (status == 0) (entry group object Received age)
+    (pick (status == 1) (entry group object Late age)
+    (pick (status == 2) (entry group object NotReceived age)
+    (pick (status == 3) (entry group object Partial age) (Err BrokenEntry))))
 
 -- age "0 where status is 2, any value otherwise"
 abbrev pub age_good : ℕ → ℕ → Bool
 age_good status age = pick (status == 2) (age == 0) true
 
 -- the entry that the fields of a record make: group and object "at most 2^62 - 1", "three zero bytes"
-unfoldable pub entry_from : ℕ → ℕ → ℕ → ℕ → ℕ → Entry
+unfoldable pub entry_from : ℕ → ℕ → ℕ → ℕ → ℕ → Result Entry Refusal
 entry_from group object status zeros age =
     pick (nat_le group limit)
     (pick (nat_le object limit)
     (pick (zeros == 0)
-    (pick (age_good status age) (with_status group object status age) Broken) Broken) Broken) Broken
+    (pick (age_good status age) (with_status group object status age) (Err BrokenEntry)) (Err BrokenEntry)) (Err BrokenEntry)) (Err BrokenEntry)
 
 -- the entry in the bytes behind its group: 2 where they are too few, 12 where they break the rule
-unfoldable pub entry_behind : ℕ → List ℕ → Entry
-entry_behind group b = pick (nat_le entry_size (length b)) (entry_from group (object_of b) (status_of b) (zeros_of b) (age_of b)) Ends
+unfoldable pub entry_behind : ℕ → List ℕ → Result Entry Refusal
+entry_behind group b = pick (nat_le entry_size (length b)) (entry_from group (object_of b) (status_of b) (zeros_of b) (age_of b)) (Err Ends)
 
 -- the entry in the bytes of one record
-abbrev pub entry_of : Profile → List ℕ → Entry
+abbrev pub entry_of : Profile → List ℕ → Result Entry Refusal
 entry_of p b = entry_behind (group_of p b) (behind p b)
 
 -- the bytes of record i
 abbrev pub record_at : Profile → List ℕ → ℕ → List ℕ
 record_at p s i = take (record_size p) (drop (i * record_size p) s)
 
-abbrev pub entry_at : Profile → List ℕ → ℕ → Entry
+abbrev pub entry_at : Profile → List ℕ → ℕ → Result Entry Refusal
 entry_at p s i = entry_of p (record_at p s i)
 
 -- by the number that "The caller passes"; "18 for a profile other than 1 or 2, first" (02, No. 10)
-abbrev pub entry_by : ℕ → List ℕ → ℕ → Entry
-entry_by n s i = of_profile n OtherProfile (λ p. entry_at p s i)
+abbrev pub entry_by : ℕ → List ℕ → ℕ → Result Entry Refusal
+entry_by n s i = of_profile n (Err OtherProfile) (λ p. entry_at p s i)
 
 -- ---- records in a row
 
@@ -82,13 +95,11 @@ at_or_above last above group object = pick (group == last) (nat_le above object)
 
 -- "Object numbers rise strictly", in a group: last and above are 0 for the first record; f takes what it leaves for the next, and x is
 -- the answer where it breaks the rule
-abbrev pub follows_or : {A : Type 0} → ℕ → ℕ → Entry → (ℕ → ℕ → A) → A → A
-follows_or last above (Record group object status age) f x = pick (at_or_above last above group object) (f group (suc object)) x
-follows_or last above Ends f x = x
-follows_or last above Broken f x = x
-follows_or last above OtherProfile f x = x
+abbrev pub follows_or : {A : Type 0} → ℕ → ℕ → Result Entry Refusal → (ℕ → ℕ → A) → A → A
+follows_or last above (Ok e) f x = pick (at_or_above last above e.group e.object) (f e.group (suc e.object)) x
+follows_or last above (Err refusal) f x = x
 
-abbrev pub follows : ℕ → ℕ → Entry → (ℕ → ℕ → Bool) → Bool
+abbrev pub follows : ℕ → ℕ → Result Entry Refusal → (ℕ → ℕ → Bool) → Bool
 follows last above e f = follows_or last above e f false
 
 -- n records in a row
@@ -100,8 +111,8 @@ abbrev pub entries_good : Profile → List ℕ → Bool
 entries_good p s = records_good p (length s / record_size p) 0 0 s
 
 -- a writer's judgement, 16 being the record's size: "an entry length that is no multiple of 16 (12), more than 256 records (10), each record (12)"
-unfoldable pub entries_fault : Profile → List ℕ → ℕ
+unfoldable pub entries_fault : Profile → List ℕ → Result Unit Refusal
 entries_fault p s =
     pick (length s % record_size p == 0)
     (pick (nat_le (length s / record_size p) most_given)
-    (pick (entries_good p s) 0 12) 10) 12
+    (pick (entries_good p s) (Ok tt) (Err BrokenEntry)) (Err BrokenCount)) (Err BrokenEntry)

@@ -2,14 +2,13 @@
 use Rattle.std.specs.Prelude.{◌≡◌, ℕ, suc, ◌*◌, ◌/◌, ◌%◌, ◌<◌, ◌≤◌, true, false, ◌⊎◌, ◌↔◌, List, [], ◌∷◌, length}
 use Rattle.wire.specs.Numbers.{limit}
 use Rattle.wire.specs.Exactly.{OneOf}
+use Rattle.wire.specs.Refusals.{refusal_number}
 use Rattle.entries.specs.Limits.{most_given}
 use Rattle.entries.specs.Profiles.{record_size, Other, In}
-use Rattle.entries.specs.Entries.{group_of, behind, object_of, status_of, zeros_of, age_of, record_at, entry_at, entry_by, entries_good, entries_fault}
+use Rattle.entries.specs.Entries.{group_of, behind, object_of, status_of, zeros_of, age_of, record_at, entry, entry_at, entry_by, entries_good, entries_fault}
 use Rattle.entries.specs.Fitting.{size_of, fitting_of, last_of}
-use Rattle.entries.specs.Refusals.{entry_refusal}
 use Rattle.entries.specs.declared.Profile.{Profile}
 use Rattle.entries.specs.declared.Status.{Status}
-use Rattle.entries.specs.declared.Entry.TheVariants.{Record}
 
 -- ---- one entry
 
@@ -37,7 +36,7 @@ pub record EntryRows (profile : ℕ) (s : List ℕ) (i refusal : ℕ) : Type 0 w
   pub others : OneOf refusal (0 ∷ 2 ∷ 12 ∷ 18 ∷ [])
 
 abbrev pub EntryReads : Type 0
-EntryReads = (profile : ℕ) (s : List ℕ) (i : ℕ) → EntryRows profile s i (entry_refusal (entry_by profile s i))
+EntryReads = (profile : ℕ) (s : List ℕ) (i : ℕ) → EntryRows profile s i (refusal_number (entry_by profile s i))
 
 -- ---- records in a row
 
@@ -51,7 +50,7 @@ pub record Obeys (p : Profile) (s : List ℕ) (i : ℕ) : Type 0 where
   pub object : ℕ
   pub status : Status
   pub age : ℕ
-  pub entry : entry_at p s i ≡ Record group object status age
+  pub entry : entry_at p s i ≡ entry group object status age
   pub rises : (j : ℕ) → suc j ≡ i → Below (group_of p (record_at p s j)) (object_of (behind p (record_at p s j))) group object
 
 abbrev pub EntriesJudged : Type 0
@@ -87,7 +86,7 @@ pub record FaultRows (p : Profile) (s : List ℕ) (refusal : ℕ) : Type 0 where
   pub others : OneOf refusal (0 ∷ 10 ∷ 12 ∷ [])
 
 abbrev pub FaultJudged : Type 0
-FaultJudged = (p : Profile) (s : List ℕ) → FaultRows p s (entries_fault p s)
+FaultJudged = (p : Profile) (s : List ℕ) → FaultRows p s (refusal_number (entries_fault p s))
 
 -- ---- the run of last records that is kept
 

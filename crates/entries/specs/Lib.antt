@@ -4,5 +4,4 @@ pub mod Entries
 pub mod Runs
 pub mod Steps
 pub mod Fitting
-pub mod Refusals
 pub mod Exactly

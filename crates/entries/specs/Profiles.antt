@@ -1,6 +1,8 @@
 -- What a report's profile fixes: its records, and its metrics. The caller passes its number.
-use Rattle.std.specs.Prelude.{◌≡◌, ℕ, ◌+◌, ◌%◌, Bool, true, ◌==◌, ◌≢◌}
+use Rattle.std.specs.Prelude.{◌≡◌, ℕ, ◌+◌, ◌%◌, Bool, true, Result, Ok, Err, ◌==◌, ◌≢◌}
 use Rattle.wire.specs.Bytes.{pick}
+use Rattle.wire.specs.declared.Refusal.{Refusal}
+use Rattle.wire.specs.declared.Refusal.TheVariants.{OtherProfile}
 use Rattle.entries.specs.Limits.{entry_size, group_size}
 use Rattle.entries.specs.declared.Profile.{Profile}
 use Rattle.entries.specs.declared.Profile.TheVariants.{One, Two}
@@ -27,6 +29,13 @@ type_allowed Two v = v % 2 == 0
 -- what f says of the caller's profile; other is the answer with "18 for a profile other than 1 or 2, first"
 abbrev pub of_profile : {R : Type 0} → ℕ → R → (Profile → R) → R
 of_profile n other f = pick (n == 1) (f One) (pick (n == 2) (f Two) other)
+
+-- that profile itself
+abbrev pub profile_by : ℕ → Result Profile Refusal
+profile_by n = of_profile n (Err OtherProfile) (λ p. Ok p)
+
+abbrev pub Numbered : ℕ → Result Profile Refusal → Type 0
+Numbered n r = r ≡ profile_by n
 
 -- ---- for the rows of the refusal table
 

@@ -5,8 +5,10 @@
 #![tactic(auto)]
 
 ghost use Rattle.std.specs.Prelude.{◌≡◌, ◌/◌};
-ghost use Rattle.entries.specs.Profiles.{record_size};
-ghost use Rattle.entries.specs.Refusals.{entry_refusal};
+ghost use Rattle.entries.specs.Profiles.{Numbered, record_size};
+ghost use Rattle.entries.specs.Entries.{status_number};
+
+use wire::Refusal;
 
 mod fit;
 mod one;
@@ -35,47 +37,40 @@ pub enum Profile {
     Two,
 }
 
-// What became of an object.
-#[derive(Clone, Copy)]
+// What became of an object, each under the number that a record holds for it.
+#[derive(Clone, Copy, PartialEq, Eq)]
 pub enum Status {
-    Received,
-    Late,
-    NotReceived,
-    Partial,
+    Received = 0,
+    Late = 1,
+    NotReceived = 2,
+    Partial = 3,
 }
 
-// What reading an entry finds: the entry, whose group is 0 in profile 1, that the bytes end inside it (2), that it breaks
-// its rule (12), or that the profile is another one (18).
-#[derive(Clone, Copy)]
-pub enum Entry {
-    Record {
-        group: u64,
-        object: u64,
-        status: Status,
-        age: u64,
-    },
-    Ends,
-    Broken,
-    OtherProfile,
+impl Status {
+    // The number in a record.
+    pub fn number(self) -> u64
+        ensures { result ≡ status_number self }
+    {
+        self as u64
+    }
 }
 
-// The parts of the 16 bytes behind a group, or that the bytes are fewer.
+// An entry. Its group is 0 in profile 1.
 #[derive(Clone, Copy)]
-enum Parts {
-    There {
-        object: u64,
-        status: u64,
-        zeros: u64,
-        age: u64,
-    },
-    Short,
+pub struct Entry {
+    pub group: u64,
+    pub object: u64,
+    pub status: Status,
+    pub age: u64,
 }
 
-// What a record in a row leaves to the next: the number that the next object of the group is to reach, or that it breaks a rule.
+// The parts of the 16 bytes behind a group, before they are judged.
 #[derive(Clone, Copy)]
-enum Next {
-    From(u64),
-    Stop,
+struct Parts {
+    object: u64,
+    status: u64,
+    zeros: u64,
+    age: u64,
 }
 
 // How many records in a row are good, and what the last of them leaves for the next: its group and one past its object number.
@@ -86,21 +81,17 @@ pub struct Run {
     pub above: u64,
 }
 
-impl Entry {
-    // The paper's number for the answer, 0 for accepted.
-    pub fn refusal(self) -> u64
-        ensures { result ≡ entry_refusal self }
-    {
-        match self {
-            Entry::Record {
-                group: _,
-                object: _,
-                status: _,
-                age: _,
-            } => 0,
-            Entry::Ends => 2,
-            Entry::Broken => 12,
-            Entry::OtherProfile => 18,
+// The profile that has the number, where one of the two does.
+impl TryFrom<u64> for Profile {
+    type Error = Refusal;
+
+    ghost try_from_gives = { Numbered };
+
+    fn try_from(number: u64) -> Result<Self, Refusal> {
+        match number {
+            1 => Ok(Profile::One),
+            2 => Ok(Profile::Two),
+            _ => Err(Refusal::OtherProfile),
         }
     }
 }

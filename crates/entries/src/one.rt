@@ -2,98 +2,75 @@
 ghost use Rattle.std.specs.Prelude.{◌≡◌, ◌≤◌};
 ghost use Rattle.wire.specs.Fields.{read_fixed};
 ghost use Rattle.entries.specs.Profiles.{group_bytes};
-ghost use Rattle.entries.specs.Entries.{entry_from, entry_behind, entry_of, entry_at, entry_by};
+ghost use Rattle.entries.specs.Entries.{entry, entry_from, entry_behind, entry_of, entry_at, entry_by};
 ghost use Rattle.entries.specs.Steps.{rest_good, parts_in};
 
 use crate::{Entry, Parts, Profile, RECORD, Status, record_size, records_in};
-use wire::{Fixed, LARGEST};
+use wire::{Fixed, LARGEST, Refusal};
 
 // The group of a record and the place behind it, both 0 where the profile has none.
-fn group_in(profile: Profile, bytes: &[u8]) -> Fixed
+fn group_in(profile: Profile, bytes: &[u8]) -> Result<Fixed, Refusal>
     ensures { result ≡ read_fixed (group_bytes profile) bytes.now 0 }
 {
     match profile {
-        Profile::One => Fixed::Value { value: 0, next: 0 },
+        Profile::One => Ok(Fixed { value: 0, next: 0 }),
         Profile::Two => wire::read_fixed8(bytes, 0),
     }
 }
 
 // The entry in a record's bytes: its group, where the profile has one, then the rest.
-pub fn entry_of(profile: Profile, bytes: &[u8]) -> Entry
+pub fn entry_of(profile: Profile, bytes: &[u8]) -> Result<Entry, Refusal>
     ensures { result ≡ entry_of profile bytes.now }
 {
-    let Fixed::Value {
-        value: group,
-        next: at,
-    } = group_in(profile, bytes)
-    else {
-        return Entry::Ends;
-    };
-    entry_behind(group, &bytes[at..])
+    let group = group_in(profile, bytes)?;
+    entry_behind(group.value, &bytes[group.next..])
 }
 
 // The entry in the 16 bytes behind the group.
-fn entry_behind(group: u64, bytes: &[u8]) -> Entry
+fn entry_behind(group: u64, bytes: &[u8]) -> Result<Entry, Refusal>
     ensures { result ≡ entry_behind group bytes.now }
 {
-    let Parts::There {
-        object,
-        status,
-        zeros,
-        age,
-    } = parts_in(bytes)
-    else {
-        return Entry::Ends;
+    let Some(parts) = parts_in(bytes) else {
+        return Err(Refusal::Ends);
     };
-    judge_entry(group, object, status, zeros, age)
+    judge_entry(group, parts)
 }
 
+// Each field is taken apart by `let .. else`, the form that document 01 names; none is refused within 16 bytes.
 // The parts of the 16 bytes behind a group. The status and the three zero bytes are read as one field of four bytes.
-pub(crate) fn parts_in(bytes: &[u8]) -> Parts
+pub(crate) fn parts_in(bytes: &[u8]) -> Option<Parts>
     ensures { result ≡ parts_in bytes.now }
 {
     if bytes.len() < RECORD {
-        return Parts::Short;
+        return None;
     }
-    let Fixed::Value {
-        value: object,
-        next: _,
-    } = wire::read_fixed8(bytes, 0)
-    else {
-        return Parts::Short;
+    let Ok(object) = wire::read_fixed8(bytes, 0) else {
+        return None;
     };
-    let Fixed::Value {
-        value: mark,
-        next: _,
-    } = wire::read_fixed4(bytes, 8)
-    else {
-        return Parts::Short;
+    let Ok(mark) = wire::read_fixed4(bytes, 8) else {
+        return None;
     };
-    let Fixed::Value {
-        value: age,
-        next: _,
-    } = wire::read_fixed4(bytes, 12)
-    else {
-        return Parts::Short;
+    let Ok(age) = wire::read_fixed4(bytes, 12) else {
+        return None;
     };
-    Parts::There {
-        object,
-        status: mark / 16777216,
-        zeros: mark % 16777216,
-        age,
-    }
+    Some(Parts {
+        object: object.value,
+        status: mark.value / 16777216,
+        zeros: mark.value % 16777216,
+        age: age.value,
+    })
 }
 
 // An entry that obeys its rule.
-fn made(group: u64, object: u64, status: Status, age: u64) -> Entry
-    ensures { result ≡ Entry.Record group object status age }
+fn made(group: u64, object: u64, status: Status, age: u64) -> Result<Entry, Refusal>
+    ensures { result ≡ entry group object status age }
 {
-    Entry::Record {
+    Ok(Entry {
         group,
         object,
         status,
         age,
-    }
+    })
 }
 
 // The largest age that four bytes hold.
@@ -117,17 +94,23 @@ pub(crate) fn rest_good(status: u64, zeros: u64, age: u64) -> bool
 
 // The entry that the fields of a record make. The rule of rest_good stands here by status, as an entry is made of each: with a call of it
 // the search for the newest lost object took 1.6 times as long.
-fn judge_entry(group: u64, object: u64, status: u64, zeros: u64, age: u64) -> Entry
-    ensures { result ≡ entry_from group object status zeros age }
+fn judge_entry(group: u64, parts: Parts) -> Result<Entry, Refusal>
+    ensures { result ≡ entry_from group parts.object parts.status parts.zeros parts.age }
 {
+    let Parts {
+        object,
+        status,
+        zeros,
+        age,
+    } = parts;
     if LARGEST < group {
-        return Entry::Broken;
+        return Err(Refusal::BrokenEntry);
     }
     if LARGEST < object {
-        return Entry::Broken;
+        return Err(Refusal::BrokenEntry);
     }
     if zeros != 0 {
-        return Entry::Broken;
+        return Err(Refusal::BrokenEntry);
     }
     match status {
         0 => made(group, object, Status::Received, age),
@@ -136,31 +119,28 @@ fn judge_entry(group: u64, object: u64, status: u64, zeros: u64, age: u64) -> En
             if age == 0 {
                 made(group, object, Status::NotReceived, age)
             } else {
-                Entry::Broken
+                Err(Refusal::BrokenEntry)
             }
         }
         3 => made(group, object, Status::Partial, age),
-        _ => Entry::Broken,
+        _ => Err(Refusal::BrokenEntry),
     }
 }
 
 // The entry of the given index in a report's entries. Its order against others is not judged.
-pub fn read_entry(profile: u64, entries: &[u8], index: usize) -> Entry
+pub fn read_entry(profile: u64, entries: &[u8], index: usize) -> Result<Entry, Refusal>
     ensures { result ≡ entry_by profile entries.now index }
 {
-    match profile {
-        1 => entry_at(Profile::One, entries, index),
-        2 => entry_at(Profile::Two, entries, index),
-        _ => Entry::OtherProfile,
-    }
+    let profile = Profile::try_from(profile)?;
+    entry_at(profile, entries, index)
 }
 
 // The same in a profile that is one of the two.
-pub fn entry_at(profile: Profile, entries: &[u8], index: usize) -> Entry
+pub fn entry_at(profile: Profile, entries: &[u8], index: usize) -> Result<Entry, Refusal>
     ensures { result ≡ entry_at profile entries.now index }
 {
     if records_in(profile, entries.len()) <= index {
-        return Entry::Ends;
+        return Err(Refusal::Ends);
     }
     let size = record_size(profile);
     let at = index * size;

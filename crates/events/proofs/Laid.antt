@@ -6,9 +6,10 @@ use mathlib.Core.List.{List, [], ◌∷◌, ◌++◌, append_assoc}
 use native.Mathlib.Omega.{arith}
 use lib.ListN.{length, get_or, take, drop, set, length-take, length-drop, length-append}
 use lib.Seq.{drop-drop, drop-cons, set_at}
+use Rattle.std.specs.Prelude.{Ok, Err}
 use Rattle.wire.specs.Bytes.{splice}
 use Rattle.wire.specs.Fields.{placed, written}
-use Rattle.wire.specs.declared.Put.TheVariants.{Done, NoRoom}
+use Rattle.wire.specs.declared.Refusal.TheVariants.{NoRoom}
 use Rattle.wire.proofs.Bytes.{splice-splice}
 use Rattle.wire.proofs.Writing.{placed-no, placed-yes}
 use Rattle.decimal.specs.Decimal.{places_of, last_digits, decimal}
@@ -48,7 +49,7 @@ module _ (index result cause : ℕ) where
   line-most i r c = omega (arith, length-line, word-places index i, word-places result r, word-places cause c)
 
   pub line-no : (xs : List ℕ) (at : ℕ) → length xs < at + (places_of index + places_of result + places_of cause + 3)
-      → (NoRoom ≡ placed xs at (line index result cause)) × (xs ≡ written xs at (line index result cause))
+      → (Err NoRoom ≡ placed xs at (line index result cause)) × (xs ≡ written xs at (line index result cause))
   line-no xs at h = placed-no xs at (line index result cause) (omega (arith, length-line))
 
   columns : (xs : List ℕ) (at : ℕ) → splice xs at (column index blank ++ (column result blank ++ column cause line_end)) ≡ splice xs at (line index result cause)
@@ -59,7 +60,7 @@ module _ (index result cause : ℕ) where
   pub line-yes : (xs ys zs ws : List ℕ) (at b d e : ℕ) → at + (places_of index + places_of result + places_of cause + 3) ≤ length xs
       → b ≡ at + places_of index + 1 → d ≡ b + places_of result + 1 → e ≡ d + places_of cause + 1 → length ys ≡ length xs
       → ys ≡ splice xs at (column index blank) → zs ≡ splice ys b (column result blank) → ws ≡ splice zs d (column cause line_end)
-      → (Done e ≡ placed xs at (line index result cause)) × (ws ≡ written xs at (line index result cause))
+      → (Ok e ≡ placed xs at (line index result cause)) × (ws ≡ written xs at (line index result cause))
   line-yes xs ys zs ws at b d e h f g k l p q r =
       let bs : b ≡ at + length (column index blank) = omega (arith, length-column index blank) in
       let ds : d ≡ b + length (column result blank) = omega (arith, length-column result blank) in

@@ -7,10 +7,10 @@ use native.Mathlib.Nat.{add-zero, add_assoc}
 use native.Mathlib.Omega.{arith}
 use lib.ListN.{length, take, drop, length-append, length-drop, take-append-drop}
 use lib.Seq.{drop-drop, take_all}
+use Rattle.std.specs.Prelude.{Result, Ok}
 use Rattle.wire.specs.Bytes.{splice}
 use Rattle.wire.specs.Fields.{placed, written}
-use Rattle.wire.specs.declared.Put.{Put}
-use Rattle.wire.specs.declared.Put.TheVariants.{Done}
+use Rattle.wire.specs.declared.Refusal.{Refusal}
 use Rattle.wire.proofs.Bytes.{splice-splice}
 use Rattle.wire.proofs.Writing.{placed-yes}
 use Rattle.receiver.specs.declared.Receiver.{Receiver}
@@ -22,14 +22,11 @@ use Rattle.events.specs.Replay.{lines_of, receiver_after, count_of, played, play
 -- ---- a line for which there is room
 
 module _ (index : ℕ) (a : Answer) (xs : List ℕ) (at : ℕ) (l : length (line_of index a) ≤ 63) (h : at + 63 ≤ length xs) where
-  pub laid_done : {p : Put} → p ≡ placed xs at (line_of index a) → p ≡ Done (at + length (line_of index a))
+  pub laid_done : {p : Result ℕ Refusal} → p ≡ placed xs at (line_of index a) → p ≡ Ok (at + length (line_of index a))
   laid_done e = e ∙ sym (placed-yes xs at (line_of index a) (omega arith)).0
 
   pub laid-bytes : {ys : List ℕ} → ys ≡ written xs at (line_of index a) → ys ≡ splice xs at (line_of index a)
   laid-bytes e = e ∙ sym (placed-yes xs at (line_of index a) (omega arith)).1
-
-pub same_place : {p : Put} {m n : ℕ} → p ≡ Done m → p ≡ Done n → m ≡ n
-same_place d e = cc
 
 -- ---- one record more
 

@@ -1,6 +1,9 @@
 -- "The replay program": an event record, the receiver's answer to it, and the receiver that the program opens.
-use Rattle.std.specs.Prelude.{ℕ, ◌/◌, ◌%◌, Bool, List, leb, eqb, length, get_or, take, drop, replicate}
+use Rattle.std.specs.Prelude.{ℕ, ◌/◌, ◌%◌, Bool, List, Result, Ok, Err, leb, eqb, length, get_or, take, drop, replicate}
 use Rattle.wire.specs.Bytes.{pick, be}
+use Rattle.wire.specs.Refusals.{number_of}
+use Rattle.wire.specs.declared.Refusal.{Refusal}
+use Rattle.wire.specs.declared.Refusal.TheVariants.{Ends}
 use Rattle.seen.specs.declared.Micros.{Micros}
 use Rattle.ecn.specs.declared.Mark.{Mark}
 use Rattle.ecn.specs.declared.Mark.TheVariants.{None, Ect0, Ect1, Ce}
@@ -12,8 +15,6 @@ use Rattle.receiver.specs.Packet.{packet_call}
 use Rattle.receiver.specs.Calls.{opened, timer_call, immediate_call}
 use Rattle.receiver.specs.Write.{write_answer}
 use Rattle.events.specs.declared.Event.{Event}
-use Rattle.events.specs.declared.EventRead.{EventRead}
-use Rattle.events.specs.declared.EventRead.TheVariants.{Whole, Short}
 
 -- ---- the record
 
@@ -22,11 +23,11 @@ abbrev pub record_length : ℕ
 record_length = 24
 
 -- "kind (..), flags (..), six ignored bytes, number, time, each 8 bytes high first"; fewer bytes are a short record
-unfoldable pub read_event : List ℕ → EventRead
+unfoldable pub read_event : List ℕ → Result Event Refusal
 read_event s =
     pick (leb record_length (length s))
-    (Whole (record { kind = get_or s 0 0; flags = get_or s 1 0; number = be 0 (take 8 (drop 8 s)); time = record { 0 = be 0 (take 8 (drop 16 s)) } }))
-    Short
+    (Ok (record { kind = get_or s 0 0; flags = get_or s 1 0; number = be 0 (take 8 (drop 8 s)); time = record { 0 = be 0 (take 8 (drop 16 s)) } }))
+    (Err Ends)
 
 -- "flags (1 ack-eliciting, 2 CE; others ignored)"
 abbrev pub is_eliciting : Event → Bool
@@ -62,9 +63,9 @@ event_call e r =
     (pick (eqb e.kind 4) (immediate_call r) (record { result = 3; next = r }))))
 
 -- "a short last record prints 2"
-abbrev pub read_call : EventRead → Receiver → Answer
-read_call (Whole e) r = event_call e r
-read_call Short r = record { result = 2; next = r }
+abbrev pub read_call : Result Event Refusal → Receiver → Answer
+read_call (Ok e) r = event_call e r
+read_call (Err refusal) r = record { result = number_of refusal; next = r }
 
 -- the answer to the record at the start of the bytes
 unfoldable pub record_call : List ℕ → Receiver → Answer

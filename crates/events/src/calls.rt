@@ -2,35 +2,23 @@
 ghost use Rattle.std.specs.Prelude.{◌≡◌};
 ghost use Rattle.events.specs.Events.{read_event, is_eliciting, ecn_mark, write_call, event_call, record_call};
 
-use crate::{Event, EventRead};
+use crate::Event;
 use ecn::{Kind, Mark};
 use receiver::{Answer, Receiver};
 use seen::Micros;
-use wire::Fixed;
+use wire::Refusal;
 
-// Reads the event at the start of s.
-pub fn read_event(s: &[u8]) -> EventRead
+// Reads the event at the start of s; 2 where the bytes end inside it.
+pub fn read_event(s: &[u8]) -> Result<Event, Refusal>
     ensures { result ≡ read_event s.now }
 {
-    let Fixed::Value {
-        value: number,
-        next: _,
-    } = wire::read_fixed8(s, 8)
-    else {
-        return EventRead::Short;
-    };
-    let Fixed::Value {
-        value: time,
-        next: _,
-    } = wire::read_fixed8(s, 16)
-    else {
-        return EventRead::Short;
-    };
-    EventRead::Whole(Event {
+    let number = wire::read_fixed8(s, 8)?;
+    let time = wire::read_fixed8(s, 16)?;
+    Ok(Event {
         kind: s[0],
         flags: s[1],
-        number,
-        time: Micros(time),
+        number: number.value,
+        time: Micros(time.value),
     })
 }
 
@@ -51,33 +39,31 @@ impl Event {
     fn is_eliciting(self) -> bool
         ensures { result ≡ is_eliciting self }
     {
-        let bit = self.flags % 2;
-        bit == 1
+        self.flags % 2 == 1
     }
 
     // The first of CE, ECT(0) and ECT(1) whose flag is set.
+    #[tactic(auto, unfolding(crate::specs::Events::ecn_mark))]
     fn ecn_mark(self) -> Mark
         ensures { result ≡ ecn_mark self }
     {
         let flags = self.flags;
         if flags / 2 % 2 == 1 {
-            return Mark::Ce;
+            Mark::Ce
+        } else if flags / 4 % 2 == 1 {
+            Mark::Ect0
+        } else if flags / 8 % 2 == 1 {
+            Mark::Ect1
+        } else {
+            Mark::None
         }
-        if flags / 4 % 2 == 1 {
-            return Mark::Ect0;
-        }
-        if flags / 8 % 2 == 1 {
-            return Mark::Ect1;
-        }
-        Mark::None
     }
 
     // The receiver's answer to the event.
     fn call(self, receiver: Receiver) -> Answer
         ensures { result ≡ event_call self receiver }
     {
-        let kind = self.kind;
-        match kind {
+        match self.kind {
             1 => receiver.packet(self.number, self.time, self.is_eliciting(), self.ecn_mark()),
             2 => receiver.timer(self.time),
             3 => write(receiver, self.time),
@@ -94,11 +80,11 @@ impl Event {
 pub fn answer(s: &[u8], receiver: Receiver) -> Answer
     ensures { result ≡ record_call s.now receiver }
 {
-    let EventRead::Whole(event) = read_event(s) else {
-        return Answer {
-            result: 2,
+    match read_event(s) {
+        Ok(event) => event.call(receiver),
+        Err(refusal) => Answer {
+            result: refusal.number(),
             next: receiver,
-        };
-    };
-    event.call(receiver)
+        },
+    }
 }

@@ -21,7 +21,7 @@ pub use pieces::piece;
 // One event: what happened, and what it happened with.
 #[derive(Clone, Copy)]
 pub struct Event {
-    // 1 packet, 2 timer, 3 write, 4 IMMEDIATE_ACK; no other is known.
+    // 1 packet, 2 timer, 3 write, 4 IMMEDIATE_ACK. It stays the record's byte: an unknown kind is an event too, to which the answer is 3.
     pub kind: u8,
     // 1 ack-eliciting, 2 CE; the other bits say nothing.
     pub flags: u8,
@@ -29,14 +29,6 @@ pub struct Event {
     pub number: u64,
     // When it happened; IMMEDIATE_ACK does not use it.
     pub time: Micros,
-}
-
-// What reading a record comes to.
-#[derive(Clone, Copy)]
-pub enum EventRead {
-    Whole(Event),
-    // The bytes end inside the record.
-    Short,
 }
 
 // What the records of a piece come to.

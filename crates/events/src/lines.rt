@@ -5,7 +5,7 @@ ghost use Rattle.wire.specs.Fields.{placed, written};
 ghost use Rattle.decimal.specs.Decimal.{places_of, decimal};
 ghost use Rattle.events.specs.Lines.{line};
 
-use wire::Put;
+use wire::Refusal;
 
 // Writes n, which has so many digits, at at, and behind it a byte that ends it; answers the place after them.
 fn put_column(buf: &mut [u8], at: usize, n: u64, digits: usize, ends: u8) -> usize
@@ -18,8 +18,14 @@ fn put_column(buf: &mut [u8], at: usize, n: u64, digits: usize, ends: u8) -> usi
     end + 1
 }
 
-// Writes the line of a record at at, where it fits.
-pub fn put_line(buf: &mut [u8], at: usize, index: u64, res: u64, cause: u64) -> Put
+// Writes the line of a record at at, and answers the place after it; 9 where it does not fit.
+pub fn put_line(
+    buf: &mut [u8],
+    at: usize,
+    index: u64,
+    res: u64,
+    cause: u64,
+) -> Result<usize, Refusal>
     ensures { (result ≡ placed buf.old at (line index res cause)) × (buf.new ≡ written buf.old at (line index res cause)) }
 {
     let first = decimal::places(index);
@@ -27,13 +33,13 @@ pub fn put_line(buf: &mut [u8], at: usize, index: u64, res: u64, cause: u64) -> 
     let third = decimal::places(cause);
     let length = first + second + third + 3;
     if buf.len() < at {
-        return Put::NoRoom;
+        return Err(Refusal::NoRoom);
     }
     if buf.len() - at < length {
-        return Put::NoRoom;
+        return Err(Refusal::NoRoom);
     }
     let after = put_column(buf, at, index, first, b' ');
     let last = put_column(buf, after, res, second, b' ');
     let next = put_column(buf, last, cause, third, b'\n');
-    Put::Done { next }
+    Ok(next)
 }

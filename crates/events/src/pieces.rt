@@ -1,5 +1,5 @@
 // A piece of the input: its records one after the other, and their lines.
-ghost use Rattle.std.specs.Prelude.{◌≡◌, ◌+◌, ◌^◌, ◌<◌, ◌≤◌, min, length};
+ghost use Rattle.std.specs.Prelude.{◌≡◌, ◌+◌, ◌^◌, ◌<◌, ◌≤◌, length};
 ghost use Rattle.wire.specs.Bytes.{splice};
 ghost use Rattle.events.specs.Events.{record_call};
 ghost use Rattle.events.specs.Lines.{line_of};
@@ -9,7 +9,6 @@ use crate::Played;
 use crate::calls::answer;
 use crate::lines::put_line;
 use receiver::Receiver;
-use wire::Put;
 
 // How many bytes a record has.
 const RECORD: usize = 24;
@@ -24,15 +23,6 @@ struct Stepped {
     at: usize,
 }
 
-fn smaller(a: usize, b: usize) -> usize
-    ensures { result ≡ min a b }
-{
-    if a < b {
-        return a;
-    }
-    b
-}
-
 // Answers the record at the start of s, and writes its line at at.
 fn step(s: &[u8], receiver: Receiver, index: u64, buf: &mut [u8], at: usize) -> Stepped
     requires { at + longest_line ≤ length buf.old }
@@ -40,19 +30,17 @@ fn step(s: &[u8], receiver: Receiver, index: u64, buf: &mut [u8], at: usize) -> 
 {
     let answered = answer(s, receiver);
     let next = answered.next;
-    let Put::Done { next: after } = put_line(buf, at, index, answered.result, next.cause) else {
-        return Stepped { next, at };
-    };
-    Stepped { next, at: after }
+    let at = put_line(buf, at, index, answered.result, next.cause).unwrap();
+    Stepped { next, at }
 }
 
 // How many records of the bytes are answered: no more than there is room for lines and than there are indices.
 fn count_of(bytes: usize, index: u64, room: usize) -> usize
     ensures { result ≡ count_of bytes index room }
 {
-    let records = bytes / RECORD + (bytes % RECORD + (RECORD - 1)) / RECORD;
+    let records = bytes.div_ceil(RECORD);
     let indices = (u64::MAX - index) as usize;
-    smaller(records, smaller(room / LINE, indices))
+    records.min((room / LINE).min(indices))
 }
 
 // Answers the records of s, the first of which has the index, and writes their lines at the start of buf.
@@ -62,13 +50,10 @@ pub fn piece(s: &[u8], receiver: Receiver, index: u64, buf: &mut [u8]) -> Played
     let count = count_of(s.len(), index, buf.len());
     let mut current = receiver;
     let mut at: usize = 0;
-    let mut i: usize = 0;
-    while i < count {
-        let start = RECORD * i;
-        let stepped = step(&s[start..], current, index + i as u64, buf, at);
+    for i in 0..count {
+        let stepped = step(&s[RECORD * i..], current, index + i as u64, buf, at);
         current = stepped.next;
         at = stepped.at;
-        i += 1;
     }
     Played {
         count,

@@ -10,42 +10,40 @@ use borrow.Author.Tests.{le-leb, lt-leb, leb-true}
 use lib.Dec.{leb, eqb}
 use lib.ListN.{length, get_or, take, drop, length-drop}
 use lib.Seq.{get_or-drop, drop-drop}
+use Rattle.std.specs.Prelude.{Result, Ok, Err}
 use Rattle.wire.specs.Bytes.{pick, be}
-use Rattle.wire.specs.Fields.{read_fixed, field}
+use Rattle.wire.specs.Fields.{read_fixed, found, field}
 use Rattle.wire.specs.Numbers.{len_of, in_form, read_form, read_number}
 use Rattle.wire.specs.declared.Fixed.{Fixed}
-use Rattle.wire.specs.declared.Fixed.TheVariants.{Value as FixedValue, Ends as FixedEnds}
 use Rattle.wire.specs.declared.Number.{Number}
-use Rattle.wire.specs.declared.Number.TheVariants.{Value, Ends}
+use Rattle.wire.specs.declared.Refusal.{Refusal}
+use Rattle.wire.specs.declared.Refusal.TheVariants.{Ends}
 use Rattle.wire.proofs.Lengths.{split}
+use Rattle.wire.proofs.Reading.{whole, found-same}
 use Rattle.frames.specs.Types.{frequency_type, counts_type, among, is_ack}
 use Rattle.frames.specs.Frequency.{read_thresholds}
-use Rattle.frames.specs.Ack.{Ranges, before, ranges_from, read_tail, read_rest, AckRead, refused, after_rest, read_ranges, ack_fields_at}
+use Rattle.frames.specs.Ack.{Ranges, before, ranges_from, ending, read_tail, read_rest, AckRead, refused, after_rest, read_ranges, ack_fields_at}
 use Rattle.frames.specs.EachWay.{later_frequency, FrequencyAfterType, later, AckAfterType}
 use Rattle.frames.specs.declared.Frequency.{Frequency}
-use Rattle.frames.specs.declared.Walk.{Walk}
-use Rattle.frames.specs.declared.Walk.TheVariants.{Whole, Ends as WalkEnds, BelowZero}
 use Rattle.frames.specs.declared.Ending.{Ending}
-use Rattle.frames.specs.declared.Ending.TheVariants.{Whole as Ended, Ends as Stops, BelowZero as Low}
-use Rattle.frames.specs.declared.Ack.TheVariants.{Ends as Cut}
 use Rattle.frames.proofs.Steps.{pick-both}
 
 -- ---- a number
 
-abbrev later_number : ℕ → Number → Number
-later_number n (Value v next b) = Value v (n + next) b
-later_number n Ends = Ends
+abbrev later_number : ℕ → Result Number Refusal → Result Number Refusal
+later_number n (Ok r) = found r.value (n + r.next) r.shortest
+later_number n (Err refusal) = Err refusal
 
-abbrev later_fixed : ℕ → Fixed → Fixed
-later_fixed n (FixedValue v next) = FixedValue v (n + next)
-later_fixed n FixedEnds = FixedEnds
+abbrev later_fixed : ℕ → Result Fixed Refusal → Result Fixed Refusal
+later_fixed n (Ok f) = whole f.value (n + f.next)
+later_fixed n (Err refusal) = Err refusal
 
-form-later : (n k : ℕ) (f : Fixed) → in_form k (later_fixed n f) ≡ later_number n (in_form k f)
-form-later n k (FixedValue v next) = refl
-form-later n k FixedEnds = refl
+form-later : (n k : ℕ) (f : Result Fixed Refusal) → in_form k (later_fixed n f) ≡ later_number n (in_form k f)
+form-later n k (Ok f) = refl
+form-later n k (Err refusal) = refl
 
 -- a number lies in the bytes
-within : (s : List ℕ) (at : ℕ) {v next : ℕ} {b : Bool} → read_number s at ≡ Value v next b → next ≤ length s
+within : (s : List ℕ) (at : ℕ) {v next : ℕ} {b : Bool} → read_number s at ≡ found v next b → next ≤ length s
 unfolding read_number read_form read_fixed
 within s at {v} {next} {b} e = go (leb (at + len) (length s)) refl e
   where
@@ -55,8 +53,8 @@ within s at {v} {next} {b} e = go (leb (at + len) (length s)) refl e
     len : ℕ
     len = len_of k
 
-    go : (t : Bool) → leb (at + len) (length s) ≡ t → in_form k (pick t (FixedValue (be 0 (take len (drop at s))) (at + len)) FixedEnds) ≡ Value v next b → next ≤ length s
-    go true t q = let m : at + len ≡ next = cc in omega (arith, leb-true (at + len) (length s) t)
+    go : (t : Bool) → leb (at + len) (length s) ≡ t → in_form k (pick t (whole (be 0 (take len (drop at s))) (at + len)) (Err Ends)) ≡ found v next b → next ≤ length s
+    go true t q = let m : at + len ≡ next = (found-same q).1 in omega (arith, leb-true (at + len) (length s) t)
     go false t q = let z : ◌≡◌ {A = ℕ} 0 1 = cc in omega arith
 
 -- what the reader makes of the fields before the ranges
@@ -89,9 +87,9 @@ module _ (n : ℕ) (s : List ℕ) (h : n ≤ length s) where
       → P x y → ((v next mid : ℕ) → mid ≡ n + next → P (f v mid) (g v next)) → P (field (read_number s (n + at)) x f) (field (read_number (drop n s) at) y g)
   step P at {x} {y} {f} {g} p q = rw (number-later at) (go (read_number (drop n s) at))
     where
-      go : (r : Number) → P (field (later_number n r) x f) (field r y g)
-      go (Value v next b) = q v next (n + next) refl
-      go Ends = p
+      go : (r : Result Number Refusal) → P (field (later_number n r) x f) (field r y g)
+      go (Ok r) = q r.value r.next (n + r.next) refl
+      go (Err refusal) = p
 
   -- ---- ACK_FREQUENCY
 
@@ -102,23 +100,21 @@ module _ (n : ℕ) (s : List ℕ) (h : n ≤ length s) where
       (step Same at2 refl (λ delay at3 mid e3. rw e3
       (step Same at3 refl (λ reordering used mid e4. rw e4)))))))
     where
-      Same : Frequency → Frequency → Type 0
+      Same : Result Frequency Refusal → Result Frequency Refusal → Type 0
       Same r q = r ≡ later_frequency n q
 
   -- ---- ACK: its ranges, its counts, and what is made of them
 
-  later_walk : Walk → Walk
-  later_walk (Whole used) = Whole (n + used)
-  later_walk WalkEnds = WalkEnds
-  later_walk BelowZero = BelowZero
+  later_walk : Result ℕ Refusal → Result ℕ Refusal
+  later_walk (Ok used) = Ok (n + used)
+  later_walk (Err refusal) = Err refusal
 
   later_ranges : Ranges → Ranges
   later_ranges r = record { pairs = r.pairs; walk = later_walk r.walk }
 
-  later_ending : Ending → Ending
-  later_ending (Ended tail used) = Ended tail (n + used)
-  later_ending Stops = Stops
-  later_ending Low = Low
+  later_ending : Result Ending Refusal → Result Ending Refusal
+  later_ending (Ok e) = ending e.tail (n + e.used)
+  later_ending (Err refusal) = Err refusal
 
   SameRanges : Ranges → Ranges → Type 0
   SameRanges r q = r ≡ later_ranges q
@@ -145,21 +141,19 @@ module _ (n : ℕ) (s : List ℕ) (h : n ≤ length s) where
       (step Same at1 refl (λ ect1 at2 mid e2. rw e2
       (step Same at2 refl (λ ce used mid e3. rw e3)))))
     where
-      Same : Ending → Ending → Type 0
+      Same : Result Ending Refusal → Result Ending Refusal → Type 0
       Same r q = r ≡ later_ending q
 
-  rest-later : (counted : Bool) (w : Walk) → read_rest counted s (later_walk w) ≡ later_ending (read_rest counted (drop n s) w)
+  rest-later : (counted : Bool) (w : Result ℕ Refusal) → read_rest counted s (later_walk w) ≡ later_ending (read_rest counted (drop n s) w)
   unfolding later_walk later_ending
-  rest-later counted (Whole used) = tail-later counted used
-  rest-later counted WalkEnds = refl
-  rest-later counted BelowZero = refl
+  rest-later counted (Ok used) = tail-later counted used
+  rest-later counted (Err refusal) = refl
 
-  judged-later : (e : Ending) (largest delay count : ℕ) (pairs xs : List ℕ)
+  judged-later : (e : Result Ending Refusal) (largest delay count : ℕ) (pairs xs : List ℕ)
       → after_rest (later_ending e) largest delay count pairs xs ≡ later n (after_rest e largest delay count pairs xs)
   unfolding later_ending
-  judged-later Stops largest delay count pairs xs = refl
-  judged-later Low largest delay count pairs xs = refl
-  judged-later (Ended tail used) largest delay count pairs xs =
+  judged-later (Err refusal) largest delay count pairs xs = refl
+  judged-later (Ok e) largest delay count pairs xs =
       pick-both (λ (r q : AckRead). r ≡ later n q) (leb (2 * (count + 1)) (length xs)) refl refl
 
   read-later : (at largest delay count : ℕ) (counted : Bool) (xs : List ℕ)
@@ -169,7 +163,7 @@ module _ (n : ℕ) (s : List ℕ) (h : n ≤ length s) where
       rw (ranges-later count at largest, rest-later counted (ranges_from count (drop n s) at largest).walk)
       (judged-later (read_rest counted (drop n s) (ranges_from count (drop n s) at largest).walk) largest delay count (ranges_from count (drop n s) at largest).pairs xs)
 
-  fields-later : (kind at : ℕ) (xs : List ℕ) → ack_fields_at kind s (n + at) (refused Cut xs) (reads s xs) ≡ later n (ack_fields_at kind (drop n s) at (refused Cut xs) (reads (drop n s) xs))
+  fields-later : (kind at : ℕ) (xs : List ℕ) → ack_fields_at kind s (n + at) (refused Ends xs) (reads s xs) ≡ later n (ack_fields_at kind (drop n s) at (refused Ends xs) (reads (drop n s) xs))
   fields-later kind at xs =
       step Same at refl (λ largest at1 mid e1. rw e1
       (step Same at1 refl (λ delay at2 mid e2. rw e2
@@ -184,7 +178,7 @@ module _ (n : ℕ) (s : List ℕ) (h : n ≤ length s) where
 pub frequency-after-type : FrequencyAfterType
 frequency-after-type s kind start e =
     rw e
-    (pick-both (λ (r q : Frequency). r ≡ later_frequency start q) (among kind (frequency_type ∷ []))
+    (pick-both (λ (r q : Result Frequency Refusal). r ≡ later_frequency start q) (among kind (frequency_type ∷ []))
     (rw (add-zero start) at (thresholds-later start s (within s 0 e) 0))
     refl)
 

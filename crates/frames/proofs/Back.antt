@@ -8,27 +8,22 @@ use native.Mathlib.Nat.{zero-add}
 use native.Mathlib.Omega.{arith}
 use lib.Dec.{eqb, lit≤}
 use lib.ListN.{length, drop, get_or}
+use Rattle.std.specs.Prelude.{Option, Some, None, Ok}
 use Rattle.wire.specs.Bytes.{splice}
+use Rattle.wire.specs.Fields.{found}
 use Rattle.wire.specs.Numbers.{limit, width_of, encode, encode_all, read_number}
 use Rattle.wire.specs.Exactly.{Small}
 use Rattle.wire.specs.Standing.{Stand, none, one}
-use Rattle.wire.specs.declared.Number.TheVariants.{Value}
-use Rattle.wire.proofs.Reading.{next}
+use Rattle.wire.proofs.Reading.{found-same, next}
 use Rattle.wire.proofs.Small.{small-append}
 use Rattle.wire.proofs.RoundTrip.{read-encoded}
 use Rattle.wire.proofs.Standing.{encoded-stand, put-done}
 use Rattle.frames.specs.Types.{frequency_type, immediate_type, counts_type, ack_types, is_ack}
-use Rattle.frames.specs.Frequency.{read_frequency, frequency}
+use Rattle.frames.specs.Frequency.{thresholds, read_frequency, frequency}
 use Rattle.frames.specs.Immediate.{read_immediate, immediate}
-use Rattle.frames.specs.Ack.{Ranges, ranges_from, read_tail, read_ack, gaps_from, range_numbers, type_of, counts_of, ack_numbers, RangesBelow, AckRanges}
+use Rattle.frames.specs.Ack.{Ranges, ranges_from, ending, read_tail, ack, read_ack, gaps_from, range_numbers, type_of, counts_of, ack_numbers, RangesBelow, AckRanges}
 use Rattle.frames.specs.EachWay.{FrequencyWriteRead, ImmediateWriteRead, AckWriteRead}
-use Rattle.frames.specs.declared.Frequency.TheVariants.{Frame}
-use Rattle.frames.specs.declared.Immediate.TheVariants.{Frame as Alone}
-use Rattle.frames.specs.declared.Ack.TheVariants.{Frame as Read}
-use Rattle.frames.specs.declared.Tail.{Tail}
-use Rattle.frames.specs.declared.Tail.TheVariants.{Nothing, Counts}
-use Rattle.frames.specs.declared.Ending.TheVariants.{Whole as Ended}
-use Rattle.frames.specs.declared.Walk.TheVariants.{Whole}
+use Rattle.frames.specs.declared.Counts.{Counts}
 use Rattle.frames.proofs.Types.{type-right}
 use Rattle.frames.proofs.Ranges.{last, more}
 use Rattle.frames.proofs.Answers.{accepted}
@@ -36,35 +31,35 @@ use Rattle.frames.proofs.Answers.{accepted}
 -- ---- ACK_FREQUENCY and IMMEDIATE_ACK
 
 -- the numbers that stand there are those of the answer
-pub frequency-stands : {s : List ℕ} {q t d r used at : ℕ} → Stand s 0 (frequency q t d r) used → read_number s 0 ≡ Value frequency_type at true
-    → read_frequency s ≡ Frame q t d r used
+pub frequency-stands : {s : List ℕ} {q t d r used at : ℕ} → Stand s 0 (frequency q t d r) used → read_number s 0 ≡ found frequency_type at true
+    → read_frequency s ≡ thresholds q t d r used
 frequency-stands {s} {at = at} (one {mid = m} k (one a (one b (one c (one e none))))) w =
-    let n : m ≡ at = cc in
+    let n : m ≡ at = (found-same (sym k ∙ w)).1 in
     sym (type-right (frequency_type ∷ []) s _ _ _ refl w refl refl (next _ _ refl (rw n at (sym a)) (next _ _ refl (sym b) (next _ _ refl (sym c) (next _ _ refl (sym e) refl)))))
 
-pub immediate-stands : {s : List ℕ} {used at : ℕ} → Stand s 0 immediate used → read_number s 0 ≡ Value immediate_type at true → read_immediate s ≡ Alone used
-immediate-stands {s} {at = at} (one {mid = m} k none) w = let n : m ≡ at = cc in rw n (sym (type-right (immediate_type ∷ []) s _ _ _ refl w refl refl refl))
+pub immediate-stands : {s : List ℕ} {used at : ℕ} → Stand s 0 immediate used → read_number s 0 ≡ found immediate_type at true → read_immediate s ≡ Ok used
+immediate-stands {s} {at = at} (one {mid = m} k none) w = let n : m ≡ at = (found-same (sym k ∙ w)).1 in rw n (sym (type-right (immediate_type ∷ []) s _ _ _ refl w refl refl refl))
 
 -- the frame's numbers vs, written at the start of s, stand there, and the type in its shortest form
 module _ (kind : ℕ) (vs s tl : List ℕ) (f : Small (kind ∷ vs)) (e : s ≡ encode_all (kind ∷ vs) ++ tl) where
   written_stands : Stand s 0 (kind ∷ vs) (length (encode_all (kind ∷ vs)))
   written_stands = subst (Stand s 0 (kind ∷ vs)) (zero-add (length (encode_all (kind ∷ vs)))) (encoded-stand (kind ∷ vs) s [] tl 0 f e refl)
 
-  written_type : read_number s 0 ≡ Value kind (width_of kind) true
+  written_type : read_number s 0 ≡ found kind (width_of kind) true
   unfolding encode_all
   written_type =
-      subst (λ (n : ℕ). read_number s 0 ≡ Value kind n true) (zero-add (width_of kind))
+      subst (λ (n : ℕ). read_number s 0 ≡ found kind n true) (zero-add (width_of kind))
       (sym (read-encoded s [] (encode_all vs ++ tl) kind 0 f.0 (e ∙ append_assoc (encode kind) (encode_all vs) tl) refl))
 
 -- an encoded frame reads as its numbers, whatever follows it
 pub frequency-back : (q t d r : ℕ) (tl : List ℕ) → q ≤ limit → t ≤ limit → d ≤ limit → r ≤ limit
-    → read_frequency (encode_all (frequency q t d r) ++ tl) ≡ Frame q t d r (length (encode_all (frequency q t d r)))
+    → read_frequency (encode_all (frequency q t d r) ++ tl) ≡ thresholds q t d r (length (encode_all (frequency q t d r)))
 frequency-back q t d r tl hq ht hd hr =
     let s : List ℕ = encode_all (frequency q t d r) ++ tl in
     let f : Small (frequency q t d r) = (lit≤ tt, (hq, (ht, (hd, (hr, tt))))) in
     frequency-stands (written_stands frequency_type (q ∷ t ∷ d ∷ r ∷ []) s tl f refl) (written_type frequency_type (q ∷ t ∷ d ∷ r ∷ []) s tl f refl)
 
-pub immediate-back : (tl : List ℕ) → read_immediate (encode_all immediate ++ tl) ≡ Alone (length (encode_all immediate))
+pub immediate-back : (tl : List ℕ) → read_immediate (encode_all immediate ++ tl) ≡ Ok (length (encode_all immediate))
 immediate-back tl =
     let s : List ℕ = encode_all immediate ++ tl in
     let f : Small immediate = (lit≤ tt, tt) in
@@ -88,23 +83,23 @@ immediate-write-read xs used e =
 
 -- one range, and those after it
 range-stands : (pairs s : List ℕ) (at mid to lo hi smallest largest end : ℕ) {a c : Bool} → lo ≤ hi → largest + 2 ≤ lo
-    → read_number s at ≡ Value (hi - lo) mid a → read_number s mid ≡ Value (lo - largest - 2) to c
-    → ranges_from (length pairs / 2) s to largest ≡ record { pairs = smallest ∷ largest ∷ pairs; walk = Whole end }
-    → ranges_from (suc (suc (length pairs)) / 2) s at hi ≡ record { pairs = lo ∷ hi ∷ smallest ∷ largest ∷ pairs; walk = Whole end }
+    → read_number s at ≡ found (hi - lo) mid a → read_number s mid ≡ found (lo - largest - 2) to c
+    → ranges_from (length pairs / 2) s to largest ≡ record { pairs = smallest ∷ largest ∷ pairs; walk = Ok end }
+    → ranges_from (suc (suc (length pairs)) / 2) s at hi ≡ record { pairs = lo ∷ hi ∷ smallest ∷ largest ∷ pairs; walk = Ok end }
 range-stands pairs s at mid to lo hi smallest largest end h b e g i =
     let z : hi - (hi - lo) ≡ lo = omega arith in
     let y : lo - (lo - largest - 2) - 2 ≡ largest = omega arith in
     let n : suc (suc (length pairs)) / 2 - 1 ≡ length pairs / 2 = omega arith in
     sym (rw (z, y, n, i) at (more (suc (suc (length pairs)) / 2) s at hi refl e refl (omega arith) (omega arith) g (omega arith)))
 
-last-stands : (s : List ℕ) (at lo hi end : ℕ) {a : Bool} → lo ≤ hi → read_number s at ≡ Value (hi - lo) end a → ranges_from 0 s at hi ≡ record { pairs = lo ∷ hi ∷ []; walk = Whole end }
+last-stands : (s : List ℕ) (at lo hi end : ℕ) {a : Bool} → lo ≤ hi → read_number s at ≡ found (hi - lo) end a → ranges_from 0 s at hi ≡ record { pairs = lo ∷ hi ∷ []; walk = Ok end }
 last-stands s at lo hi end h e =
     let z : hi - (hi - lo) ≡ lo = omega arith in
     sym (rw z at (last 0 s at hi refl e refl (omega arith)))
 
 -- the numbers after the range count give the ranges that they were made of
 ranges-stand : (pairs s : List ℕ) (at lo hi end : ℕ) → lo ≤ hi → RangesBelow lo pairs → Stand s at ((hi - lo) ∷ gaps_from lo pairs) end
-    → ranges_from (length pairs / 2) s at hi ≡ record { pairs = lo ∷ hi ∷ pairs; walk = Whole end }
+    → ranges_from (length pairs / 2) s at hi ≡ record { pairs = lo ∷ hi ∷ pairs; walk = Ok end }
 unfolding gaps_from RangesBelow
 ranges-stand [] s at lo hi end h b (one e none) = last-stands s at lo hi end h e
 ranges-stand (smallest ∷ []) s at lo hi end h b t = absurd b
@@ -139,31 +134,31 @@ pub stand-split : {s : List ℕ} {at next : ℕ} (us vs : List ℕ) → Stand s 
 stand-split {at = at} [] vs t = (at, none, t)
 stand-split (u ∷ us) vs (one e t) = let r = stand-split us vs t in (r.0, one e r.1, r.2)
 
-tail-stands : {s : List ℕ} {at used : ℕ} (tail : Tail) → Stand s at (counts_of tail) used → Ended tail used ≡ read_tail (eqb (type_of tail) counts_type) s at
+tail-stands : {s : List ℕ} {at used : ℕ} (tail : Option Counts) → Stand s at (counts_of tail) used → ending tail used ≡ read_tail (eqb (type_of tail) counts_type) s at
 unfolding read_tail
-tail-stands Nothing none = refl
-tail-stands (Counts ect0 ect1 ce) (one a (one b (one c none))) = next _ _ refl (sym a) (next _ _ refl (sym b) (next _ _ refl (sym c) refl))
+tail-stands None none = refl
+tail-stands (Some counts) (one a (one b (one c none))) = next _ _ refl (sym a) (next _ _ refl (sym b) (next _ _ refl (sym c) refl))
 
-an-ack : (tail : Tail) → is_ack (type_of tail) ≡ true
-an-ack Nothing = refl
-an-ack (Counts ect0 ect1 ce) = refl
+an-ack : (tail : Option Counts) → is_ack (type_of tail) ≡ true
+an-ack None = refl
+an-ack (Some counts) = refl
 
-pub type-small : (tail : Tail) → type_of tail ≤ limit
-type-small Nothing = lit≤ tt
-type-small (Counts ect0 ect1 ce) = lit≤ tt
+pub type-small : (tail : Option Counts) → type_of tail ≤ limit
+type-small None = lit≤ tt
+type-small (Some counts) = lit≤ tt
 
 -- ---- ACK: the frame
 
 -- with room for the ranges, the frame's numbers are the answer and the slice
-ack-stands : (s xs pairs : List ℕ) (tail : Tail) (delay lo hi used start : ℕ) → lo ≤ hi → RangesBelow lo pairs → 2 * (length pairs / 2 + 1) ≤ length xs
-    → read_number s 0 ≡ Value (type_of tail) start true
+ack-stands : (s xs pairs : List ℕ) (tail : Option Counts) (delay lo hi used start : ℕ) → lo ≤ hi → RangesBelow lo pairs → 2 * (length pairs / 2 + 1) ≤ length xs
+    → read_number s 0 ≡ found (type_of tail) start true
     → Stand s 0 (type_of tail ∷ hi ∷ delay ∷ (length pairs / 2) ∷ (((hi - lo) ∷ gaps_from lo pairs) ++ counts_of tail)) used
-    → read_ack s xs ≡ record { answer = Read hi delay (length pairs / 2 + 1) used tail; slice = splice xs 0 (lo ∷ hi ∷ pairs) }
+    → read_ack s xs ≡ record { answer = ack hi delay (length pairs / 2 + 1) used tail; slice = splice xs 0 (lo ∷ hi ∷ pairs) }
 ack-stands s xs pairs tail delay lo hi used start h b room w (one {mid = m} k (one {mid = m1} a (one {mid = m2} c (one {mid = at} n t)))) =
-    let e : m ≡ start = cc in
+    let e : m ≡ start = (found-same (sym k ∙ w)).1 in
     let p = stand-split ((hi - lo) ∷ gaps_from lo pairs) (counts_of tail) t in
     let r = ranges-stand pairs s at lo hi p.0 h b p.1 in
-    let walked : Whole p.0 ≡ (ranges_from (length pairs / 2) s at hi).walk = sym (ap (λ (x : Ranges). x.walk) r) in
+    let walked : Ok p.0 ≡ (ranges_from (length pairs / 2) s at hi).walk = sym (ap (λ (x : Ranges). x.walk) r) in
     let wrote : splice xs 0 (lo ∷ hi ∷ pairs) ≡ splice xs 0 (ranges_from (length pairs / 2) s at hi).pairs = sym (ap (λ (x : Ranges). splice xs 0 x.pairs) r) in
     sym
     (type-right ack_types s _ _ _ refl w (an-ack tail) refl
@@ -181,13 +176,13 @@ ranges-small kind delay (lo ∷ hi ∷ pairs) k r d =
     (k, (r.1, (d, (few, (omega (arith, r.1), gaps)))))
 
 -- so its writer answers 5 for a count only
-pub ack-small : (tail : Tail) (delay : ℕ) (pairs : List ℕ) → AckRanges pairs → delay ≤ limit → Small (counts_of tail) → Small (ack_numbers tail delay pairs)
+pub ack-small : (tail : Option Counts) (delay : ℕ) (pairs : List ℕ) → AckRanges pairs → delay ≤ limit → Small (counts_of tail) → Small (ack_numbers tail delay pairs)
 ack-small tail delay pairs r d f = (small-append (range_numbers (type_of tail) delay pairs) (counts_of tail)).1 (ranges-small (type_of tail) delay pairs (type-small tail) r d, f)
 
 -- an ACK frame that says given ranges and counts is read as those
-pub ack-back : (tail : Tail) (delay : ℕ) (pairs tl xs : List ℕ) → AckRanges pairs → delay ≤ limit → Small (counts_of tail) → length pairs ≤ length xs
+pub ack-back : (tail : Option Counts) (delay : ℕ) (pairs tl xs : List ℕ) → AckRanges pairs → delay ≤ limit → Small (counts_of tail) → length pairs ≤ length xs
     → read_ack (encode_all (ack_numbers tail delay pairs) ++ tl) xs
-    ≡ record { answer = Read (get_or pairs 1 0) delay (length pairs / 2) (length (encode_all (ack_numbers tail delay pairs))) tail; slice = splice xs 0 pairs }
+    ≡ record { answer = ack (get_or pairs 1 0) delay (length pairs / 2) (length (encode_all (ack_numbers tail delay pairs))) tail; slice = splice xs 0 pairs }
 unfolding AckRanges range_numbers
 ack-back tail delay [] tl xs r d f h = absurd r
 ack-back tail delay (lo ∷ []) tl xs r d f h = absurd r

@@ -6,32 +6,27 @@ use mathlib.Core.Bool.{Bool}
 use mathlib.Core.List.{List}
 use native.Mathlib.Omega.{arith}
 use lib.Dec.{leb, eqb}
+use Rattle.std.specs.Prelude.{Option, Result, Ok, Err}
 use Rattle.wire.specs.Numbers.{read_number}
+use Rattle.wire.specs.declared.Refusal.{Refusal}
+use Rattle.wire.specs.declared.Refusal.TheVariants.{Ends, OtherType}
 use Rattle.frames.specs.Types.{counts_type, is_ack}
-use Rattle.frames.specs.Ack.{ranges_from, read_range, IsWhole, read_tail, read_rest, AckRead, refused, after_rest, read_ranges, ack_fields_at, ack_fields, read_header_at, read_header, read_header_as, after_header, read_ack, read_ack_as, checked_rest, check_ranges, check_ack, after_check}
+use Rattle.frames.specs.Ack.{ranges_from, step, read_range, IsWhole, read_tail, read_rest, AckRead, refused, after_rest, read_ranges, ack_fields_at, ack_fields, read_header_at, read_header, read_header_as, after_header, read_ack, read_ack_as, checked, checked_rest, check_ranges, check_ack, after_check}
 use Rattle.frames.specs.EachWay.{CheckThenRoom, RangeByRange}
-use Rattle.frames.specs.declared.Walk.{Walk}
-use Rattle.frames.specs.declared.Walk.TheVariants.{Whole, Ends, BelowZero}
 use Rattle.frames.specs.declared.Range.{Range}
-use Rattle.frames.specs.declared.Range.TheVariants.{Of, Ends as RangeEnds, BelowZero as RangeLow}
-use Rattle.frames.specs.declared.Tail.{Tail}
+use Rattle.frames.specs.declared.Counts.{Counts}
 use Rattle.frames.specs.declared.Ending.{Ending}
-use Rattle.frames.specs.declared.Ending.TheVariants.{Whole as Ended, Ends as Stops, BelowZero as Low}
-use Rattle.frames.specs.declared.Ack.TheVariants.{Ends as Cut, OtherType}
 use Rattle.frames.specs.declared.Header.{Header}
-use Rattle.frames.specs.declared.Header.TheVariants.{Numbers, Ends as HeaderEnds, OtherType as HeaderOther}
 use Rattle.frames.specs.declared.Checked.{Checked}
-use Rattle.frames.specs.declared.Checked.TheVariants.{Frame as CheckedFrame, Ends as CheckedEnds, OtherType as CheckedOther, BelowZero as CheckedLow}
-use Rattle.frames.proofs.Steps.{formed-both, field_both, pick-both, step_cut, step-low, step-last, step-more}
+use Rattle.frames.proofs.Steps.{formed-both, field_both, pick-both, step_fault, step-last, step-more}
 use Rattle.frames.proofs.Lent.{formed-all, field-all, pick_all}
 
 -- ---- the reader is the check, then the room
 
-rest-by : (s : List ℕ) (at largest delay count : ℕ) (xs : List ℕ) (w : Ending)
+rest-by : (s : List ℕ) (at largest delay count : ℕ) (xs : List ℕ) (w : Result Ending Refusal)
     → after_rest w largest delay count (ranges_from count s at largest).pairs xs ≡ after_check s (checked_rest at largest delay count w) xs
-rest-by s at largest delay count xs Stops = refl
-rest-by s at largest delay count xs Low = refl
-rest-by s at largest delay count xs (Ended tail used) = refl
+rest-by s at largest delay count xs (Err refusal) = refl
+rest-by s at largest delay count xs (Ok e) = refl
 
 ranges-by : (s : List ℕ) (at largest delay count : ℕ) (counted : Bool) (xs : List ℕ)
     → read_ranges s at largest delay count counted xs ≡ after_check s (check_ranges s at largest delay count counted) xs
@@ -50,7 +45,7 @@ check-then-room s xs =
     refl)
     refl)
   where
-    Same : AckRead → Checked → Type 0
+    Same : AckRead → Result Checked Refusal → Type 0
     Same r k = r ≡ after_check s k xs
 
 -- ---- the numbers before the ranges, then what is made of them
@@ -59,69 +54,62 @@ check-then-room s xs =
 abbrev reads_on : List ℕ → List ℕ → ℕ → ℕ → ℕ → ℕ → Bool → AckRead
 reads_on s xs at largest delay count counted = read_ranges s at largest delay count counted xs
 
-abbrev by_header : {R : Type 0} → R → R → (ℕ → ℕ → ℕ → ℕ → Bool → R) → Header → R
-by_header cut other f HeaderEnds = cut
-by_header cut other f HeaderOther = other
-by_header cut other f (Numbers largest delay count at counted) = f at largest delay count counted
+abbrev by_header : {R : Type 0} → (Refusal → R) → (ℕ → ℕ → ℕ → ℕ → Bool → R) → Result Header Refusal → R
+by_header fault f (Err refusal) = fault refusal
+by_header fault f (Ok h) = f h.at h.largest h.delay h.count h.counted
 
-abbrev pub read_after : List ℕ → List ℕ → Header → AckRead
-read_after s xs h = by_header (refused Cut xs) (refused OtherType xs) (λ at largest delay count counted. read_ranges s at largest delay count counted xs) h
+abbrev pub read_after : List ℕ → List ℕ → Result Header Refusal → AckRead
+read_after s xs h = by_header (λ refusal. refused refusal xs) (λ at largest delay count counted. read_ranges s at largest delay count counted xs) h
 
-by_one : (s xs : List ℕ) (h : Header) → after_header s h xs ≡ read_after s xs h
-by_one s xs HeaderEnds = refl
-by_one s xs HeaderOther = refl
-by_one s xs (Numbers largest delay count at counted) = refl
+by_one : (s xs : List ℕ) (h : Result Header Refusal) → after_header s h xs ≡ read_after s xs h
+by_one s xs (Err refusal) = refl
+by_one s xs (Ok h) = refl
 
-fields-first : {R : Type 0} (kind : ℕ) (s : List ℕ) (at0 : ℕ) (cut other : R) (f : ℕ → ℕ → ℕ → ℕ → Bool → R)
-    → ack_fields_at kind s at0 cut f ≡ by_header cut other f (read_header_at kind s at0)
-fields-first {R} kind s at0 cut other f =
+fields-first : {R : Type 0} (kind : ℕ) (s : List ℕ) (at0 : ℕ) (fault : Refusal → R) (f : ℕ → ℕ → ℕ → ℕ → Bool → R)
+    → ack_fields_at kind s at0 (fault Ends) f ≡ by_header fault f (read_header_at kind s at0)
+fields-first {R} kind s at0 fault f =
     field_both Same (read_number s at0) refl (λ largest at1.
     field_both Same (read_number s at1) refl (λ delay at2.
     field_both Same (read_number s at2) refl (λ count at3. refl)))
   where
-    Same : R → Header → Type 0
-    Same r h = r ≡ by_header cut other f h
+    Same : R → Result Header Refusal → Type 0
+    Same r h = r ≡ by_header fault f h
 
-header-first : {R : Type 0} (s : List ℕ) (cut other : R) (f : ℕ → ℕ → ℕ → ℕ → Bool → R) → ack_fields s cut other f ≡ by_header cut other f (read_header s)
-header-first {R} s cut other f =
+header-first : {R : Type 0} (s : List ℕ) (fault : Refusal → R) (f : ℕ → ℕ → ℕ → ℕ → Bool → R) → ack_fields s (fault Ends) (fault OtherType) f ≡ by_header fault f (read_header s)
+header-first {R} s fault f =
     formed-both Same (read_number s 0) refl (λ kind at0 shortest.
     pick-both Same (is_ack kind)
-    (pick-both Same shortest (fields-first kind s at0 cut other f) refl)
+    (pick-both Same shortest (fields-first kind s at0 fault f) refl)
     refl)
   where
-    Same : R → Header → Type 0
-    Same r h = r ≡ by_header cut other f h
+    Same : R → Result Header Refusal → Type 0
+    Same r h = r ≡ by_header fault f h
 
 -- what a header leads to, by what is known of it
-pub read-on : (s xs : List ℕ) {h v : Header} → h ≡ v → after_header s v xs ≡ after_header s h xs
-read-on s xs t = ap (λ (w : Header). after_header s w xs) (sym t)
+pub read-on : (s xs : List ℕ) {h v : Result Header Refusal} → h ≡ v → after_header s v xs ≡ after_header s h xs
+read-on s xs t = ap (λ (w : Result Header Refusal). after_header s w xs) (sym t)
 
 -- the reader's answer is what its header leads to, where it is handed the type
-pub read-by-as : (kind : ℕ) (s xs : List ℕ) {h : Header} → h ≡ read_header_as kind s → after_header s h xs ≡ read_ack_as kind s xs
+pub read-by-as : (kind : ℕ) (s xs : List ℕ) {h : Result Header Refusal} → h ≡ read_header_as kind s → after_header s h xs ≡ read_ack_as kind s xs
 read-by-as kind s xs e =
     read-on s xs (sym e)
     ∙ pick-both Same (is_ack kind)
-    (by_one s xs (read_header_at kind s 0) ∙ sym (fields-first kind s 0 (refused Cut xs) (refused OtherType xs) (reads_on s xs)))
+    (by_one s xs (read_header_at kind s 0) ∙ sym (fields-first kind s 0 (λ refusal. refused refusal xs) (reads_on s xs)))
     refl
   where
-    Same : Header → AckRead → Type 0
+    Same : Result Header Refusal → AckRead → Type 0
     Same h r = after_header s h xs ≡ r
 
-abbrev pub check_after : List ℕ → Header → Checked
-check_after s h = by_header CheckedEnds CheckedOther (check_ranges s) h
+abbrev pub check_after : List ℕ → Result Header Refusal → Result Checked Refusal
+check_after s h = by_header Err (check_ranges s) h
 
 -- h is what reading the numbers answers
-module _ (s : List ℕ) {h : Header} (e : h ≡ read_header s) where
-  pub checked-by : {v : Header} → h ≡ v → check_after s v ≡ check_ack s
-  checked-by t = ap (check_after s) (sym t ∙ e) ∙ sym (header-first s CheckedEnds CheckedOther (check_ranges s))
+module _ (s : List ℕ) {h : Result Header Refusal} (e : h ≡ read_header s) where
+  pub checked-by : {v : Result Header Refusal} → h ≡ v → check_after s v ≡ check_ack s
+  checked-by t = ap (check_after s) (sym t ∙ e) ∙ sym (header-first s Err (check_ranges s))
 
-  -- w is how the walk ended
-  pub checked-walk : {largest delay count at : ℕ} {counted : Bool} → h ≡ Numbers largest delay count at counted → {w : Walk} {r : Checked} → w ≡ (ranges_from count s at largest).walk
-      → r ≡ checked_rest at largest delay count (read_rest counted s w) → r ≡ check_ack s
-  checked-walk {largest} {delay} {count} {at} {counted} t d f = f ∙ ap (λ (v : Walk). checked_rest at largest delay count (read_rest counted s v)) d ∙ checked-by t
-
-  pub read_by : (xs : List ℕ) {v : Header} → h ≡ v → read_after s xs v ≡ read_ack s xs
-  read_by xs t = ap (read_after s xs) (sym t ∙ e) ∙ sym (header-first s (refused Cut xs) (refused OtherType xs) (λ at largest delay count counted. read_ranges s at largest delay count counted xs))
+  pub read_by : (xs : List ℕ) {v : Result Header Refusal} → h ≡ v → read_after s xs v ≡ read_ack s xs
+  read_by xs t = ap (read_after s xs) (sym t ∙ e) ∙ sym (header-first s (λ refusal. refused refusal xs) (λ at largest delay count counted. read_ranges s at largest delay count counted xs))
 
   -- and where it reads it
   pub read-by-header : (xs : List ℕ) → after_header s h xs ≡ read_ack s xs
@@ -131,17 +119,16 @@ module _ (s : List ℕ) {h : Header} (e : h ≡ read_header s) where
 
 pub range-by-range : (left : ℕ) (s : List ℕ) (at largest : ℕ) → RangeByRange left s at largest
 range-by-range left s at largest = record {
-  cut = λ t. sym (step_cut left s at largest refl t);
-  low = λ t. sym (step-low left s at largest refl t);
+  cut = λ t. sym (step_fault left s at largest refl t);
+  low = λ t. sym (step_fault left s at largest refl t);
   last = λ smallest lower next t z. sym (step-last left s at largest refl t z);
   more = λ smallest lower next t h. sym (step-more left s at largest refl t h);
 }
 
 -- a step goes down
-Falls : ℕ → Range → Type 0
-Falls high (Of lo lower next) = (lo ≤ high) × (lower ≤ high)
-Falls high RangeEnds = Unit
-Falls high RangeLow = Unit
+Falls : ℕ → Result Range Refusal → Type 0
+Falls high (Ok r) = (r.smallest ≤ high) × (r.below ≤ high)
+Falls high (Err refusal) = Unit
 
 falls : (left : ℕ) (s : List ℕ) (at high : ℕ) → Falls high (read_range left s at high)
 unfolding read_range Falls
@@ -155,32 +142,28 @@ falls (suc left) s at high =
     pick_all (Falls high) (leb (gap + 2) (high - len)) (omega arith, omega arith) tt))
     tt)
 
-pub step_falls : (left : ℕ) (s : List ℕ) (at high : ℕ) {r : Range} {lo lower next : ℕ} → r ≡ read_range left s at high → r ≡ Of lo lower next → (lo ≤ high) × (lower ≤ high)
+pub step_falls : (left : ℕ) (s : List ℕ) (at high : ℕ) {r : Result Range Refusal} {lo lower next : ℕ} → r ≡ read_range left s at high → r ≡ step lo lower next → (lo ≤ high) × (lower ≤ high)
 unfolding Falls
 step_falls left s at high e t = subst (Falls high) (sym e ∙ t) (falls left s at high)
 
 -- ---- an accepted frame's walk is whole
 
-IsWalked : List ℕ → Checked → Type 0
-IsWalked s (CheckedFrame largest delay at count used tail) = IsWhole (ranges_from count s at largest).walk
-IsWalked s CheckedEnds = Unit
-IsWalked s CheckedOther = Unit
-IsWalked s CheckedLow = Unit
+IsWalked : List ℕ → Result Checked Refusal → Type 0
+IsWalked s (Ok c) = IsWhole (ranges_from c.count s c.at c.largest).walk
+IsWalked s (Err refusal) = Unit
 
-rest-walked : (s : List ℕ) (at largest delay count : ℕ) (w : Ending) → IsWhole (ranges_from count s at largest).walk → IsWalked s (checked_rest at largest delay count w)
+rest-walked : (s : List ℕ) (at largest delay count : ℕ) (w : Result Ending Refusal) → IsWhole (ranges_from count s at largest).walk → IsWalked s (checked_rest at largest delay count w)
 unfolding IsWalked
-rest-walked s at largest delay count Stops h = tt
-rest-walked s at largest delay count Low h = tt
-rest-walked s at largest delay count (Ended tail used) h = h
+rest-walked s at largest delay count (Err refusal) h = tt
+rest-walked s at largest delay count (Ok e) h = h
 
 ranges-walked : (s : List ℕ) (at largest delay count : ℕ) (counted : Bool) → IsWalked s (check_ranges s at largest delay count counted)
 unfolding IsWalked
 ranges-walked s at largest delay count counted = go (ranges_from count s at largest).walk refl
   where
-    go : (w : Walk) → (ranges_from count s at largest).walk ≡ w → IsWalked s (checked_rest at largest delay count (read_rest counted s w))
-    go Ends t = tt
-    go BelowZero t = tt
-    go (Whole used) t = rest-walked s at largest delay count (read_tail counted s used) (subst IsWhole (sym t) tt)
+    go : (w : Result ℕ Refusal) → (ranges_from count s at largest).walk ≡ w → IsWalked s (checked_rest at largest delay count (read_rest counted s w))
+    go (Err refusal) t = tt
+    go (Ok used) t = rest-walked s at largest delay count (read_tail counted s used) (subst IsWhole (sym t) refl)
 
 is-walked : (s : List ℕ) → IsWalked s (check_ack s)
 unfolding IsWalked
@@ -195,7 +178,7 @@ is-walked s =
     tt)
     tt)
 
-pub whole : (s : List ℕ) {k : Checked} {largest delay at count used : ℕ} {tail : Tail} → k ≡ check_ack s → k ≡ CheckedFrame largest delay at count used tail
+pub whole : (s : List ℕ) {k : Result Checked Refusal} {largest delay at count used : ℕ} {tail : Option Counts} → k ≡ check_ack s → k ≡ checked largest delay at count used tail
     → IsWhole (ranges_from count s at largest).walk
 unfolding IsWalked
 whole s e t = subst (IsWalked s) (sym e ∙ t) (is-walked s)

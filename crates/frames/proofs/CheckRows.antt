@@ -2,46 +2,34 @@
 -- Assumes nothing.
 use Prim.Native.Nat.{ℕ, ◌+◌, ◌*◌, ◌≤◌, ◌<◌}
 use mathlib.Core.Path.{◌≡◌, refl, sym, ap, ◌∙◌}
-use mathlib.Core.Logic.{inl, inr}
 use mathlib.Core.List.{List, [], ◌∷◌}
 use native.Mathlib.Omega.{arith}
-use borrow.Author.Tests.{le-leb, eqb-false}
+use borrow.Author.Tests.{le-leb}
 use lib.ListN.{length, replicate, length-replicate}
+use Rattle.std.specs.Prelude.{Result, Ok, Err}
+use Rattle.wire.specs.Refusals.{refusal_number}
 use Rattle.wire.specs.Exactly.{OneOf}
+use Rattle.wire.specs.declared.Refusal.{Refusal}
 use Rattle.wire.proofs.Lengths.{split}
 use Rattle.frames.specs.Ack.{AckRead, read_ack, check_ack, after_check}
-use Rattle.frames.specs.Refusals.{ack_refusal, checked_refusal}
 use Rattle.frames.specs.Exactly.{After, count, AckChecks}
 use Rattle.frames.specs.declared.Checked.{Checked}
-use Rattle.frames.specs.declared.Checked.TheVariants.{Frame, Ends, OtherType, BelowZero}
 use Rattle.frames.proofs.Check.{check-then-room}
+use Rattle.frames.proofs.Faults.{check-others}
 use Rattle.frames.proofs.Exactly.{ack-reads}
 
 -- so much room is enough
-room_for : Checked → ℕ
-room_for (Frame largest delay at count used tail) = 2 * (count + 1)
-room_for Ends = 0
-room_for OtherType = 0
-room_for BelowZero = 0
+room_for : Result Checked Refusal → ℕ
+room_for (Ok c) = 2 * (c.count + 1)
+room_for (Err refusal) = 0
 
-same-refusal : (s xs : List ℕ) (k : Checked) → room_for k ≤ length xs → ack_refusal (after_check s k xs).answer ≡ checked_refusal k
+same-refusal : (s xs : List ℕ) (k : Result Checked Refusal) → room_for k ≤ length xs → refusal_number (after_check s k xs).answer ≡ refusal_number k
 unfolding room_for
-same-refusal s xs Ends h = refl
-same-refusal s xs OtherType h = refl
-same-refusal s xs BelowZero h = refl
-same-refusal s xs (Frame largest delay at count used tail) h = rw (le-leb (2 * (count + 1)) (length xs) h) refl
+same-refusal s xs (Err refusal) h = refl
+same-refusal s xs (Ok c) h = rw (le-leb (2 * (c.count + 1)) (length xs) h) refl
 
-one_of : (k : Checked) → OneOf (checked_refusal k) (0 ∷ 2 ∷ 3 ∷ 14 ∷ [])
-one_of (Frame largest delay at count used tail) = inl refl
-one_of Ends = inr (inl refl)
-one_of OtherType = inr (inr (inl refl))
-one_of BelowZero = inr (inr (inr (inl refl)))
-
-not-nine : (k : Checked) → checked_refusal k ≡ 9 → ⊥
-not-nine (Frame largest delay at count used tail) = eqb-false 0 9 refl
-not-nine Ends = eqb-false 2 9 refl
-not-nine OtherType = eqb-false 3 9 refl
-not-nine BelowZero = eqb-false 14 9 refl
+not-nine : {n : ℕ} → OneOf n (0 ∷ 2 ∷ 3 ∷ 14 ∷ []) → n ≡ 9 → ⊥
+not-nine o e = omega (arith, o)
 
 mapped : {kinds s : List ℕ} {P Q : ℕ → List ℕ → ℕ → Type 0} (a : After kinds s P) → ((kind : ℕ) (vs : List ℕ) (next : ℕ) → P kind vs next → Q kind vs next) → After kinds s Q
 mapped a f = record {
@@ -64,10 +52,11 @@ also a R h = record {
 
 pub ack-checks : AckChecks
 ack-checks s =
-    let k : Checked = check_ack s in
+    let k : Result Checked Refusal = check_ack s in
+    let only = check-others s in
     let xs : List ℕ = replicate (room_for k) 0 in
     let long : length xs ≡ room_for k = length-replicate (room_for k) 0 in
-    let e : ack_refusal (read_ack s xs).answer ≡ checked_refusal k = ap (λ (r : AckRead). ack_refusal r.answer) (check-then-room s xs) ∙ same-refusal s xs k (omega arith) in
+    let e : refusal_number (read_ack s xs).answer ≡ refusal_number k = ap (λ (r : AckRead). refusal_number r.answer) (check-then-room s xs) ∙ same-refusal s xs k (omega arith) in
     let rows = ack-reads s xs in
     record {
       three = (λ t. rows.three.0 (e ∙ t), λ a. sym e ∙ rows.three.1 a);
@@ -76,7 +65,7 @@ ack-checks s =
       accepted = (
         λ t. mapped (rows.accepted.0 (e ∙ t)) (λ kind vs next h. (h.0, h.1)),
         λ a.
-            split (2 * (count a.fields.numbers + 1)) (length xs) (λ h. sym e ∙ rows.accepted.1 (mapped (also a (λ vs. 2 * (count vs + 1) ≤ length xs) h) (λ kind vs next p. (p.0.0, p.0.1, p.1)))) (λ h. absurd (not-nine k (sym e ∙ rows.nine.1 (mapped (also a (λ vs. length xs < 2 * (count vs + 1)) h) (λ kind vs next p. (p.0.0, p.0.1, p.1)))))),
+            split (2 * (count a.fields.numbers + 1)) (length xs) (λ h. sym e ∙ rows.accepted.1 (mapped (also a (λ vs. 2 * (count vs + 1) ≤ length xs) h) (λ kind vs next p. (p.0.0, p.0.1, p.1)))) (λ h. absurd (not-nine only (sym e ∙ rows.nine.1 (mapped (also a (λ vs. length xs < 2 * (count vs + 1)) h) (λ kind vs next p. (p.0.0, p.0.1, p.1)))))),
       );
-      others = one_of k;
+      others = only;
     }

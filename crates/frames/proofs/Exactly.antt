@@ -2,7 +2,6 @@
 -- Assumes nothing.
 use Prim.Native.Nat.{ℕ, zero, suc, ◌+◌, ◌-◌, ◌*◌, ◌≤◌, ◌<◌}
 use mathlib.Core.Path.{◌≡◌, refl, sym, ap}
-use mathlib.Core.Logic.{inl, inr}
 use mathlib.Core.Bool.{Bool, true, false}
 use mathlib.Core.List.{List, [], ◌∷◌}
 use native.Mathlib.Nat.{add-zero}
@@ -10,27 +9,22 @@ use native.Mathlib.Omega.{arith}
 use borrow.Author.Tests.{eqb-false, le-leb, lt-leb}
 use lib.Dec.{leb, eqb}
 use lib.ListN.{length, take}
+use Rattle.std.specs.Prelude.{Result, Ok, Err}
 use Rattle.wire.specs.Bytes.{pick, splice}
 use Rattle.wire.specs.Fields.{field}
 use Rattle.wire.specs.Numbers.{read_number}
+use Rattle.wire.specs.Refusals.{number_of, refusal_number}
 use Rattle.wire.specs.Exactly.{OneOf}
+use Rattle.wire.specs.declared.Refusal.{Refusal}
+use Rattle.wire.specs.declared.Refusal.TheVariants.{Ends, OtherType, NoRoom, BelowZero}
 use Rattle.wire.proofs.Lengths.{split}
 use Rattle.frames.specs.Types.{frequency_type, immediate_type, counts_type, ack_types}
-use Rattle.frames.specs.Frequency.{read_thresholds, read_frequency, read_frequency_as}
-use Rattle.frames.specs.Immediate.{read_immediate}
-use Rattle.frames.specs.Ack.{Ranges, ended, before, range, below, ranges_from, read_tail, read_rest, AckRead, refused, after_rest, read_ranges, ack_fields_at, read_ack, read_ack_as}
-use Rattle.frames.specs.Refusals.{frequency_refusal, immediate_refusal, ack_refusal}
+use Rattle.frames.specs.Frequency.{read_thresholds}
+use Rattle.frames.specs.Ack.{Ranges, ended, before, range, below, ranges_from, read_tail, read_rest, ack, AckRead, refused, after_rest, read_ranges, ack_fields_at}
 use Rattle.frames.specs.Exactly.{Reads, FrequencyReads, FrequencyReadsAs, ImmediateReads, of_ranges, asked, count, down, Below, NotBelow, AckReads, AckReadsAs}
-use Rattle.frames.specs.declared.Frequency.{Frequency}
-use Rattle.frames.specs.declared.Frequency.TheVariants.{Frame, Ends, OtherType}
-use Rattle.frames.specs.declared.Ack.{Ack}
-use Rattle.frames.specs.declared.Ack.TheVariants.{Frame as Read, Ends as Cut', OtherType as OtherType', BelowZero as Low, NoRoom}
-use Rattle.frames.specs.declared.Walk.TheVariants.{Whole, BelowZero}
 use Rattle.frames.specs.declared.Ending.{Ending}
-use Rattle.frames.specs.declared.Ending.TheVariants.{Whole as Ended, Ends as Stopped, BelowZero as Lowered}
-use Rattle.frames.specs.declared.Immediate.{Immediate}
-use Rattle.frames.specs.declared.Immediate.TheVariants.{Frame as Alone, Ends as Cut, OtherType as Another}
 use Rattle.frames.proofs.Chain.{chain, chain-rows}
+use Rattle.frames.proofs.Faults.{frequency-others, frequency-others-as, immediate-others, ack-others, ack-others-as}
 use Rattle.frames.proofs.Rows.{Rows, FrameRows, nothing, at_once, never, here, field-rows, rows-map, frame-rows, frame-rows-as, through}
 
 -- ---- frames of n numbers: no room is judged
@@ -49,52 +43,33 @@ frame-reads : {type n : ℕ} {s : List ℕ} {refusal : ℕ}
     → OneOf refusal (0 ∷ 2 ∷ 3 ∷ []) → Reads type n s refusal
 frame-reads r o = record { three = r.three; two = r.two; accepted = r.accepted; others = o }
 
-four : (s : List ℕ) (at : ℕ) → frequency_refusal (read_thresholds s at) ≡ chain 0 0 4 s at
+four : (s : List ℕ) (at : ℕ) → refusal_number (read_thresholds s at) ≡ chain 0 0 4 s at
 unfolding chain
 four s at =
-    through frequency_refusal (read_number s at) refl (λ q at1.
-    through frequency_refusal (read_number s at1) refl (λ t at2.
-    through frequency_refusal (read_number s at2) refl (λ d at3.
-    through frequency_refusal (read_number s at3) refl (λ r used. refl))))
-
--- the numbers of the readers' answers
-frequency-others : (a : Frequency) → OneOf (frequency_refusal a) (0 ∷ 2 ∷ 3 ∷ [])
-frequency-others (Frame q t d r used) = inl refl
-frequency-others Ends = inr (inl refl)
-frequency-others OtherType = inr (inr (inl refl))
-
-immediate-others : (a : Immediate) → OneOf (immediate_refusal a) (0 ∷ 2 ∷ 3 ∷ [])
-immediate-others (Alone used) = inl refl
-immediate-others Cut = inr (inl refl)
-immediate-others Another = inr (inr (inl refl))
-
-ack-others : (a : Ack) → OneOf (ack_refusal a) (0 ∷ 2 ∷ 3 ∷ 9 ∷ 14 ∷ [])
-ack-others (Read l d ranges used tail) = inl refl
-ack-others Cut' = inr (inl refl)
-ack-others OtherType' = inr (inr (inl refl))
-ack-others NoRoom = inr (inr (inr (inl refl)))
-ack-others Low = inr (inr (inr (inr (inl refl))))
+    through refusal_number (read_number s at) refl (λ q at1.
+    through refusal_number (read_number s at1) refl (λ t at2.
+    through refusal_number (read_number s at2) refl (λ d at3.
+    through refusal_number (read_number s at3) refl (λ r used. refl))))
 
 pub frequency-reads : FrequencyReads
-frequency-reads s = frame-reads (frame-rows frequency_refusal (frequency_type ∷ []) s Ends OtherType _ refl refl (λ kind at. rw four (numbers-rows 4 s at))) (frequency-others (read_frequency s))
+frequency-reads s = frame-reads (frame-rows refusal_number (frequency_type ∷ []) s (Err Ends) (Err OtherType) _ refl refl (λ kind at. rw four (numbers-rows 4 s at))) (frequency-others s)
 
 pub frequency-reads-as : FrequencyReadsAs
 frequency-reads-as kind s =
-    let rows : Rows s 0 (frequency_refusal (read_thresholds s 0)) (λ vs. length vs < 4) (λ vs. ⊥) (λ vs. ⊥) (λ vs. length vs ≡ 4) = rw four (numbers-rows 4 s 0) in
-    let r = frame-rows-as frequency_refusal (frequency_type ∷ []) kind s OtherType (read_thresholds s 0) refl rows in
-    record { three = r.three; two = r.two; accepted = r.accepted; others = frequency-others (read_frequency_as kind s) }
+    let rows : Rows s 0 (refusal_number (read_thresholds s 0)) (λ vs. length vs < 4) (λ vs. ⊥) (λ vs. ⊥) (λ vs. length vs ≡ 4) = rw four (numbers-rows 4 s 0) in
+    let r = frame-rows-as refusal_number (frequency_type ∷ []) kind s (Err OtherType) (read_thresholds s 0) refl rows in
+    record { three = r.three; two = r.two; accepted = r.accepted; others = frequency-others-as kind s }
 
 pub immediate-reads : ImmediateReads
 unfolding chain
-immediate-reads s = frame-reads (frame-rows immediate_refusal (immediate_type ∷ []) s Cut Another _ refl refl (λ kind at. numbers-rows 0 s at)) (immediate-others (read_immediate s))
+immediate-reads s = frame-reads (frame-rows refusal_number (immediate_type ∷ []) s (Err Ends) (Err OtherType) _ refl refl (λ kind at. numbers-rows 0 s at)) (immediate-others s)
 
 -- ---- ACK: the ranges
 
 -- the refusal of a frame that ended so, with the room for all its ranges
-end_refusal : ℕ → ℕ → Ending → ℕ
-end_refusal need room Stopped = 2
-end_refusal need room Lowered = 14
-end_refusal need room (Ended tail used) = pick (leb need room) 0 9
+end_refusal : ℕ → ℕ → Result Ending Refusal → ℕ
+end_refusal need room (Err refusal) = number_of refusal
+end_refusal need room (Ok e) = pick (leb need room) 0 9
 
 -- how many counts come after the ranges
 many : Bool → ℕ
@@ -122,7 +97,7 @@ module _ (s : List ℕ) (counted : Bool) (total room : ℕ) where
       (λ vs. (length vs ≡ n + many counted) × (down further (take n vs) ≤ high) × (2 * (total + 1) ≤ room))
 
   -- none more: the counts come
-  no_steps : (further high at : ℕ) → StepRows further 0 high at (told (ended (Whole at)))
+  no_steps : (further high at : ℕ) → StepRows further 0 high at (told (ended (Ok at)))
   unfolding StepRows told down
   no_steps further high at =
       rw tail-told
@@ -160,7 +135,7 @@ module _ (s : List ℕ) (counted : Bool) (total room : ℕ) where
         accepted = never (eqb-false 14 0 refl) (nothing (λ vs next p. omega (arith, p.1)));
       })))
 
-  tested : (b : Bool) (r : Ranges) → told (pick b r (ended BelowZero)) ≡ pick b (told r) 14
+  tested : (b : Bool) (r : Ranges) → told (pick b r (ended (Err BelowZero))) ≡ pick b (told r) 14
   unfolding told end_refusal
   tested true r = refl
   tested false r = refl
@@ -198,15 +173,14 @@ module _ (s : List ℕ) (counted : Bool) (total room : ℕ) where
 -- ---- ACK: the frame
 
 abbrev refusal : AckRead → ℕ
-refusal r = ack_refusal r.answer
+refusal r = refusal_number r.answer
 
-after-rest-told : (largest delay count : ℕ) (pairs xs : List ℕ) (w : Ending) → refusal (after_rest w largest delay count pairs xs) ≡ end_refusal (2 * (count + 1)) (length xs) w
+after-rest-told : (largest delay count : ℕ) (pairs xs : List ℕ) (w : Result Ending Refusal) → refusal (after_rest w largest delay count pairs xs) ≡ end_refusal (2 * (count + 1)) (length xs) w
 unfolding end_refusal
-after-rest-told largest delay count pairs xs Stopped = refl
-after-rest-told largest delay count pairs xs Lowered = refl
-after-rest-told largest delay count pairs xs (Ended tail used) = go (leb (2 * (count + 1)) (length xs))
+after-rest-told largest delay count pairs xs (Err refusal) = refl
+after-rest-told largest delay count pairs xs (Ok e) = go (leb (2 * (count + 1)) (length xs))
   where
-    go : (b : Bool) → refusal (pick b (record { answer = Read largest delay (count + 1) used tail; slice = splice xs 0 pairs }) (refused NoRoom xs)) ≡ pick b 0 9
+    go : (b : Bool) → refusal (pick b (record { answer = ack largest delay (count + 1) e.used e.tail; slice = splice xs 0 pairs }) (refused NoRoom xs)) ≡ pick b 0 9
     go true = refl
     go false = refl
 
@@ -229,9 +203,9 @@ ranges-rows s at largest delay count counted xs =
 
 three-fields : (s xs : List ℕ) (counted : Bool) (at : ℕ)
     → refusal
-    (field (read_number s at) (refused Cut' xs) (λ largest at1.
-    field (read_number s at1) (refused Cut' xs) (λ delay at2.
-    field (read_number s at2) (refused Cut' xs) (λ count at3.
+    (field (read_number s at) (refused Ends xs) (λ largest at1.
+    field (read_number s at1) (refused Ends xs) (λ delay at2.
+    field (read_number s at2) (refused Ends xs) (λ count at3.
     read_ranges s at3 largest delay count counted xs))))
     ≡ field (read_number s at) 2 (λ largest at1.
     field (read_number s at1) 2 (λ delay at2.
@@ -244,7 +218,7 @@ three-fields s xs counted at =
 
 -- the rows after the type
 ack-rows : (s xs : List ℕ) (kind at : ℕ)
-    → Rows s at (refusal (ack_fields_at kind s at (refused Cut' xs) (λ at3 largest delay count counted. read_ranges s at3 largest delay count counted xs)))
+    → Rows s at (refusal (ack_fields_at kind s at (refused Ends xs) (λ at3 largest delay count counted. read_ranges s at3 largest delay count counted xs)))
     (λ vs. (length vs < asked kind vs) × NotBelow vs)
     (λ vs. (length vs ≤ of_ranges vs) × Below vs)
     (λ vs. (length vs ≡ asked kind vs) × NotBelow vs × (length xs < 2 * (count vs + 1)))
@@ -259,10 +233,10 @@ ack-rows s xs kind at =
 
 pub ack-reads : AckReads
 ack-reads s xs =
-    let r = frame-rows refusal ack_types s (refused Cut' xs) (refused OtherType' xs) _ refl refl (ack-rows s xs) in
-    record { three = r.three; two = r.two; fourteen = r.fourteen; nine = r.nine; accepted = r.accepted; others = ack-others (read_ack s xs).answer }
+    let r = frame-rows refusal ack_types s (refused Ends xs) (refused OtherType xs) _ refl refl (ack-rows s xs) in
+    record { three = r.three; two = r.two; fourteen = r.fourteen; nine = r.nine; accepted = r.accepted; others = ack-others s xs }
 
 pub ack-reads-as : AckReadsAs
 ack-reads-as kind s xs =
-    let r = frame-rows-as refusal ack_types kind s (refused OtherType' xs) _ refl (ack-rows s xs kind 0) in
-    record { three = r.three; two = r.two; fourteen = r.fourteen; nine = r.nine; accepted = r.accepted; others = ack-others (read_ack_as kind s xs).answer }
+    let r = frame-rows-as refusal ack_types kind s (refused OtherType xs) _ refl (ack-rows s xs kind 0) in
+    record { three = r.three; two = r.two; fourteen = r.fourteen; nine = r.nine; accepted = r.accepted; others = ack-others-as kind s xs }

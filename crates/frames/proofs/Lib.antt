@@ -10,6 +10,7 @@ pub mod Accepted
 pub mod Few
 pub mod Rows
 pub mod Chain
+pub mod Faults
 pub mod Exactly
 pub mod CheckRows
 pub mod AfterType

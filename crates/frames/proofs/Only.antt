@@ -20,14 +20,6 @@ use Rattle.frames.proofs.frequency_frame.put_frequency.Reads as put-frequency
 use Rattle.frames.proofs.frequency_frame.put_frequency.Kinds as put-frequency-kinds
 use Rattle.frames.proofs.immediate_frame.put_immediate.Reads as put-immediate
 use Rattle.frames.proofs.immediate_frame.put_immediate.Kinds as put-immediate-kinds
-use Rattle.frames.proofs.Frequency.refusal.Reads as frequency-refusal
-use Rattle.frames.proofs.Frequency.refusal.Kinds as frequency-refusal-kinds
-use Rattle.frames.proofs.Immediate.refusal.Reads as immediate-refusal
-use Rattle.frames.proofs.Immediate.refusal.Kinds as immediate-refusal-kinds
-use Rattle.frames.proofs.Ack.refusal.Reads as ack-refusal
-use Rattle.frames.proofs.Ack.refusal.Kinds as ack-refusal-kinds
-use Rattle.frames.proofs.Checked.refusal.Reads as checked-refusal
-use Rattle.frames.proofs.Checked.refusal.Kinds as checked-refusal-kinds
 
 pub read-frequency-one : OneAnswer 1 read-frequency-kinds.ps read-frequency-kinds.r read-frequency.Post
 read-frequency-one κs given x y s t p q = p ∙ sym q
@@ -55,15 +47,3 @@ put-frequency-one κs given x y s t p q = (p.0 ∙ sym q.0, p.1 ∙ sym q.1)
 
 pub put-immediate-one : OneBuffer 1 put-immediate-kinds.ps put-immediate-kinds.r (λ κs s. s.0.now) put-immediate.Post
 put-immediate-one κs given x y s t p q = (p.0 ∙ sym q.0, p.1 ∙ sym q.1)
-
-pub frequency-refusal-one : OneAnswer 0 frequency-refusal-kinds.ps frequency-refusal-kinds.r frequency-refusal.Post
-frequency-refusal-one κs given x y s t p q = p ∙ sym q
-
-pub immediate-refusal-one : OneAnswer 0 immediate-refusal-kinds.ps immediate-refusal-kinds.r immediate-refusal.Post
-immediate-refusal-one κs given x y s t p q = p ∙ sym q
-
-pub ack-refusal-one : OneAnswer 0 ack-refusal-kinds.ps ack-refusal-kinds.r ack-refusal.Post
-ack-refusal-one κs given x y s t p q = p ∙ sym q
-
-pub checked-refusal-one : OneAnswer 0 checked-refusal-kinds.ps checked-refusal-kinds.r checked-refusal.Post
-checked-refusal-one κs given x y s t p q = p ∙ sym q

@@ -2,89 +2,87 @@
 -- Assumes nothing.
 use Prim.Native.Nat.{ℕ, zero, suc, ◌+◌, ◌-◌, ◌≤◌, ◌<◌}
 use mathlib.Core.Path.{◌≡◌, refl, sym, ap, subst, ◌∙◌}
-use mathlib.Core.Bool.{Bool, true, false}
+use mathlib.Core.Bool.{Bool, true, false, true≢false}
 use mathlib.Core.List.{List}
 use native.Mathlib.Omega.{arith}
 use borrow.Author.Tests.{le-leb, lt-leb}
 use lib.Dec.{leb}
+use Rattle.std.specs.Prelude.{Result, Ok, Err}
 use Rattle.wire.specs.Bytes.{pick}
-use Rattle.wire.specs.Fields.{formed, field}
+use Rattle.wire.specs.Fields.{found, formed, field}
 use Rattle.wire.specs.Numbers.{read_number}
 use Rattle.wire.specs.declared.Number.{Number}
-use Rattle.wire.specs.declared.Number.TheVariants.{Value, Ends as Stops}
+use Rattle.wire.specs.declared.Refusal.{Refusal}
+use Rattle.wire.specs.declared.Refusal.TheVariants.{Ends, BelowZero}
 use Rattle.wire.proofs.Reading.{stop, next, yes, no}
-use Rattle.frames.specs.Ack.{Ranges, ended, before, smallest_at, largest_at, ranges_from, read_range, IsWhole}
-use Rattle.frames.specs.declared.Walk.{Walk}
-use Rattle.frames.specs.declared.Walk.TheVariants.{Whole, Ends, BelowZero}
+use Rattle.frames.specs.Ack.{Ranges, ended, before, smallest_at, largest_at, ranges_from, step, read_range, IsWhole}
 use Rattle.frames.specs.declared.Range.{Range}
-use Rattle.frames.specs.declared.Range.TheVariants.{Of, Ends as RangeEnds, BelowZero as RangeLow}
 
 -- ---- a step
 
 -- what comes after a range's length: nothing, or a gap
-gap_after : ℕ → List ℕ → ℕ → ℕ → Range
-gap_after zero s smallest at = Of smallest 0 at
-gap_after (suc left) s smallest at = largest_at s at smallest RangeEnds RangeLow (λ lower next. Of smallest lower next)
+gap_after : ℕ → List ℕ → ℕ → ℕ → Result Range Refusal
+gap_after zero s smallest at = step smallest 0 at
+gap_after (suc left) s smallest at = largest_at s at smallest (Err Ends) (Err BelowZero) (λ lower next. step smallest lower next)
 
 -- the last range and the others are one rule
-one-rule : (left : ℕ) (s : List ℕ) (at high : ℕ) → read_range left s at high ≡ smallest_at s at high RangeEnds RangeLow (gap_after left s)
+one-rule : (left : ℕ) (s : List ℕ) (at high : ℕ) → read_range left s at high ≡ smallest_at s at high (Err Ends) (Err BelowZero) (gap_after left s)
 unfolding read_range gap_after
 one-rule zero s at high = refl
 one-rule (suc left) s at high = refl
 
 -- n is what reading the length answers
-module _ (left : ℕ) (s : List ℕ) (at high : ℕ) {n : Number} (e : n ≡ read_number s at) where
-  pub length_cut : n ≡ Stops → RangeEnds ≡ read_range left s at high
+module _ (left : ℕ) (s : List ℕ) (at high : ℕ) {n : Result Number Refusal} (e : n ≡ read_number s at) where
+  pub length_cut : {refusal : Refusal} → n ≡ Err refusal → Err Ends ≡ read_range left s at high
   length_cut t = rw one-rule (stop _ _ t e)
 
-  module _ {len mid : ℕ} {b : Bool} (t : n ≡ Value len mid b) where
-    pub length-low : high < len → RangeLow ≡ read_range left s at high
+  module _ {len mid : ℕ} {b : Bool} (t : n ≡ found len mid b) where
+    pub length-low : high < len → Err BelowZero ≡ read_range left s at high
     length-low h = rw one-rule (next _ _ t e (no _ _ (lt-leb len high h) refl))
 
     -- r is what comes after the length
-    length-in : {r : Range} → len ≤ high → r ≡ gap_after left s (high - len) mid → r ≡ read_range left s at high
+    length-in : {r : Result Range Refusal} → len ≤ high → r ≡ gap_after left s (high - len) mid → r ≡ read_range left s at high
     length-in h g = rw one-rule (next _ _ t e (yes _ _ (le-leb len high h) g))
 
-    pub last : left ≡ 0 → len ≤ high → Of (high - len) 0 mid ≡ read_range left s at high
+    pub last : left ≡ 0 → len ≤ high → step (high - len) 0 mid ≡ read_range left s at high
     unfolding gap_after
     last z h = length-in h (rw z refl)
 
     -- m is what reading the gap answers
-    module _ {m : Number} (f : m ≡ read_number s mid) (some : 0 < left) (h : len ≤ high) where
-      some_left : {x : Range} → x ≡ largest_at s mid (high - len) RangeEnds RangeLow (λ lower next. Of (high - len) lower next) → x ≡ gap_after left s (high - len) mid
+    module _ {m : Result Number Refusal} (f : m ≡ read_number s mid) (some : 0 < left) (h : len ≤ high) where
+      some_left : {x : Result Range Refusal} → x ≡ largest_at s mid (high - len) (Err Ends) (Err BelowZero) (λ lower next. step (high - len) lower next) → x ≡ gap_after left s (high - len) mid
       unfolding gap_after
       some_left g = let k : left ≡ suc (left - 1) = omega arith in rw k g
 
-      pub gap-cut : m ≡ Stops → RangeEnds ≡ read_range left s at high
+      pub gap-cut : {refusal : Refusal} → m ≡ Err refusal → Err Ends ≡ read_range left s at high
       gap-cut u = length-in h (some_left (stop _ _ u f))
 
-      module _ {gap to : ℕ} {short : Bool} (u : m ≡ Value gap to short) where
-        pub gap-low : high - len < gap + 2 → RangeLow ≡ read_range left s at high
+      module _ {gap to : ℕ} {short : Bool} (u : m ≡ found gap to short) where
+        pub gap-low : high - len < gap + 2 → Err BelowZero ≡ read_range left s at high
         gap-low l = length-in h (some_left (next _ _ u f (no _ _ (lt-leb (gap + 2) (high - len) l) refl)))
 
-        pub more : gap + 2 ≤ high - len → Of (high - len) (high - len - gap - 2) to ≡ read_range left s at high
+        pub more : gap + 2 ≤ high - len → step (high - len) (high - len - gap - 2) to ≡ read_range left s at high
         more l = length-in h (some_left (next _ _ u f (yes _ _ (le-leb (gap + 2) (high - len) l) refl)))
 
 -- ---- the walk, step by step
 
 -- the ranges after a step: none, or those from the next place on
 rest : ℕ → List ℕ → ℕ → ℕ → Ranges
-rest zero s lower at = ended (Whole at)
+rest zero s lower at = ended (Ok at)
 rest (suc left) s lower at = ranges_from left s at lower
 
 -- what a step says of the walk that it begins
-Follows : ℕ → List ℕ → ℕ → Range → Ranges → Type 0
-Follows left s high RangeEnds r = r.walk ≡ Ends
-Follows left s high RangeLow r = r.walk ≡ BelowZero
-Follows left s high (Of lo lower next) r = r ≡ before lo high (rest left s lower next)
+Follows : ℕ → List ℕ → ℕ → Result Range Refusal → Ranges → Type 0
+Follows left s high (Err refusal) r = r.walk ≡ Err refusal
+Follows left s high (Ok q) r = r ≡ before q.smallest high (rest left s q.below q.next)
 
 -- what holds of the answers of two chains over one field holds of the chains
-pub formed-both : {A B : Type 0} (P : A → B → Type 0) (n : Number) {x : A} {y : B} {f : ℕ → ℕ → Bool → A} {g : ℕ → ℕ → Bool → B}
+pub formed-both : {A B : Type 0} (P : A → B → Type 0) (n : Result Number Refusal) {x : A} {y : B} {f : ℕ → ℕ → Bool → A} {g : ℕ → ℕ → Bool → B}
     → P x y → ((v at : ℕ) (b : Bool) → P (f v at b) (g v at b)) → P (formed n x f) (formed n y g)
-formed-both P (Value v at b) p h = h v at b
-formed-both P Stops p h = p
+formed-both P (Ok n) p h = h n.value n.next n.shortest
+formed-both P (Err refusal) p h = p
 
-pub field_both : {A B : Type 0} (P : A → B → Type 0) (n : Number) {x : A} {y : B} {f : ℕ → ℕ → A} {g : ℕ → ℕ → B}
+pub field_both : {A B : Type 0} (P : A → B → Type 0) (n : Result Number Refusal) {x : A} {y : B} {f : ℕ → ℕ → A} {g : ℕ → ℕ → B}
     → P x y → ((v at : ℕ) → P (f v at) (g v at)) → P (field n x f) (field n y g)
 field_both P n p h = formed-both P n p (λ v at b. h v at)
 
@@ -100,25 +98,21 @@ follows zero s at high =
 follows (suc left) s at high =
     field_both (Follows (suc left) s high) (read_number s at) refl (λ len mid.
     pick-both (Follows (suc left) s high) (leb len high)
-    (field_both (λ (r : Range) (q : Ranges). Follows (suc left) s high r (before (high - len) high q)) (read_number s mid) refl (λ gap to.
-    pick-both (λ (r : Range) (q : Ranges). Follows (suc left) s high r (before (high - len) high q)) (leb (gap + 2) (high - len)) refl refl))
+    (field_both (λ (r : Result Range Refusal) (q : Ranges). Follows (suc left) s high r (before (high - len) high q)) (read_number s mid) refl (λ gap to.
+    pick-both (λ (r : Result Range Refusal) (q : Ranges). Follows (suc left) s high r (before (high - len) high q)) (leb (gap + 2) (high - len)) refl refl))
     refl)
 
 -- r is what a step answers
-module _ (left : ℕ) (s : List ℕ) (at high : ℕ) {r : Range} (e : r ≡ read_range left s at high) where
-  told : {q : Range} → r ≡ q → Follows left s high q (ranges_from left s at high)
-  told t = subst (λ (x : Range). Follows left s high x (ranges_from left s at high)) (sym e ∙ t) (follows left s at high)
+module _ (left : ℕ) (s : List ℕ) (at high : ℕ) {r : Result Range Refusal} (e : r ≡ read_range left s at high) where
+  told : {q : Result Range Refusal} → r ≡ q → Follows left s high q (ranges_from left s at high)
+  told t = subst (λ (x : Result Range Refusal). Follows left s high x (ranges_from left s at high)) (sym e ∙ t) (follows left s at high)
 
-  pub step_cut : r ≡ RangeEnds → Ends ≡ (ranges_from left s at high).walk
+  pub step_fault : {refusal : Refusal} → r ≡ Err refusal → Err refusal ≡ (ranges_from left s at high).walk
   unfolding Follows
-  step_cut t = sym (told t)
+  step_fault t = sym (told t)
 
-  pub step-low : r ≡ RangeLow → BelowZero ≡ (ranges_from left s at high).walk
-  unfolding Follows
-  step-low t = sym (told t)
-
-  module _ {lo lower next : ℕ} (t : r ≡ Of lo lower next) where
-    pub step-last : left ≡ 0 → before lo high (ended (Whole next)) ≡ ranges_from left s at high
+  module _ {lo lower next : ℕ} (t : r ≡ step lo lower next) where
+    pub step-last : left ≡ 0 → before lo high (ended (Ok next)) ≡ ranges_from left s at high
     unfolding Follows rest
     step-last z = sym (told t ∙ rw z refl)
 
@@ -130,8 +124,5 @@ module _ (left : ℕ) (s : List ℕ) (at high : ℕ) {r : Range} (e : r ≡ read
         from k = ap (λ (x : ℕ). before lo high (rest x s lower next)) k
 
 -- a whole walk has no fault
-pub whole-no-cut : {w : Walk} → IsWhole w → Ends ≡ w → ⊥
-whole-no-cut h e = subst IsWhole (sym e) h
-
-pub whole-no-low : {w : Walk} → IsWhole w → BelowZero ≡ w → ⊥
-whole-no-low h e = subst IsWhole (sym e) h
+pub whole-no-fault : {w : Result ℕ Refusal} {refusal : Refusal} → IsWhole w → Err refusal ≡ w → ⊥
+whole-no-fault h e = true≢false (sym (subst IsWhole (sym e) h))

@@ -2,6 +2,5 @@ pub mod Types
 pub mod Frequency
 pub mod Immediate
 pub mod Ack
-pub mod Refusals
 pub mod Exactly
 pub mod EachWay

@@ -1,8 +1,11 @@
 -- "Three frames": their types, and how a reader begins: at the first byte, and it ignores what follows the frame.
-use Rattle.std.specs.Prelude.{ℕ, Bool, true, false, List, [], ◌∷◌, eqb}
+use Rattle.std.specs.Prelude.{ℕ, Bool, true, false, List, [], ◌∷◌, Result, Ok, Err, eqb}
 use Rattle.wire.specs.Bytes.{pick}
 use Rattle.wire.specs.Fields.{formed}
 use Rattle.wire.specs.Numbers.{read_number}
+use Rattle.wire.specs.declared.Refusal.{Refusal}
+use Rattle.wire.specs.declared.Refusal.TheVariants.{Ends, OtherType}
+use Rattle.frames.specs.declared.Kind.{Kind}
 
 -- ACK_FREQUENCY: "type 0xaf, written 40 af"
 abbrev pub frequency_type : ℕ
@@ -36,6 +39,10 @@ is_ack v = among v ack_types
 abbrev pub typed : {R : Type 0} → List ℕ → List ℕ → R → R → (ℕ → ℕ → R) → R
 typed kinds s ends other f =
     formed (read_number s 0) ends (λ v next shortest. pick (among v kinds) (pick shortest (f v next) other) other)
+
+-- the type by itself, in its shortest form, and the place after it
+abbrev pub read_type : List ℕ → Result Kind Refusal
+read_type s = formed (read_number s 0) (Err Ends) (λ kind next shortest. pick shortest (Ok (record { kind = kind; next = next })) (Err OtherType))
 
 -- the same where the host's own stack has read the type already and hands it over as a number
 abbrev pub typed_as : {R : Type 0} → List ℕ → ℕ → R → R → R

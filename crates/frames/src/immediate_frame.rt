@@ -3,35 +3,26 @@ ghost use Rattle.std.specs.Prelude.{◌≡◌};
 ghost use Rattle.wire.specs.Numbers.{put_answer, put_bytes};
 ghost use Rattle.frames.specs.Immediate.{read_immediate, immediate};
 
-use crate::Immediate;
-use wire::{Number, Put};
+use crate::Kind;
+use crate::frame_type::read_type;
+use wire::Refusal;
 
 // Its type.
 const IMMEDIATE_ACK: u64 = 0x1f;
 
-// Reads the IMMEDIATE_ACK frame that s starts with.
-pub fn read_immediate(s: &[u8]) -> Immediate
+// Reads the IMMEDIATE_ACK frame that s starts with, and answers the length used.
+pub fn read_immediate(s: &[u8]) -> Result<usize, Refusal>
     ensures { result ≡ read_immediate s.now }
 {
-    let Number::Value {
-        value: kind,
-        next: used,
-        shortest,
-    } = wire::read_number(s, 0)
-    else {
-        return Immediate::Ends;
-    };
+    let Kind { kind, next } = read_type(s)?;
     if kind != IMMEDIATE_ACK {
-        return Immediate::OtherType;
+        return Err(Refusal::OtherType);
     }
-    if !shortest {
-        return Immediate::OtherType;
-    }
-    Immediate::Frame { used }
+    Ok(next)
 }
 
 // Writes an IMMEDIATE_ACK frame at the start of buf.
-pub fn put_immediate(buf: &mut [u8]) -> Put
+pub fn put_immediate(buf: &mut [u8]) -> Result<usize, Refusal>
     ensures { (result ≡ put_answer buf.old 0 immediate) × (buf.new ≡ put_bytes buf.old 0 immediate) }
 {
     let kind: [u64; 1] = [IMMEDIATE_ACK];

@@ -4,12 +4,10 @@
 
 #![tactic(auto)]
 
-ghost use Rattle.std.specs.Prelude.{◌≡◌};
-ghost use Rattle.frames.specs.Refusals.{frequency_refusal, immediate_refusal, ack_refusal, checked_refusal};
-
 mod ack_frame;
 mod ack_header;
 mod ack_ranges;
+mod frame_type;
 mod frequency_frame;
 mod immediate_frame;
 
@@ -18,179 +16,73 @@ pub use ack_ranges::read_range;
 pub use frequency_frame::{put_frequency, read_frequency, read_frequency_as};
 pub use immediate_frame::{put_immediate, read_immediate};
 
-// What reading ACK_FREQUENCY finds: its four numbers and the length used, or the refusal.
+// ACK_FREQUENCY as it was read: its four numbers, and the length used.
 #[derive(Clone, Copy)]
-pub enum Frequency {
-    Frame {
-        sequence: u64,
-        threshold: u64,
-        delay: u64,
-        reordering: u64,
-        used: usize,
-    },
-    Ends,
-    OtherType,
+pub struct Frequency {
+    pub sequence: u64,
+    pub threshold: u64,
+    pub delay: u64,
+    pub reordering: u64,
+    pub used: usize,
 }
 
-// What reading IMMEDIATE_ACK finds: the length used, or the refusal.
+// The three ECN counts that an ACK frame of type 03 has after its ranges; one of type 02 has nothing there (RFC 9000 19.3.2).
 #[derive(Clone, Copy)]
-pub enum Immediate {
-    Frame { used: usize },
-    Ends,
-    OtherType,
+pub struct Counts {
+    pub ect0: u64,
+    pub ect1: u64,
+    pub ce: u64,
 }
 
-// What an ACK frame has after its ranges: nothing, for type 02, or for type 03 the three ECN counts (RFC 9000 19.3.2).
+// ACK as it was read: how many ranges were written beside its numbers, the length used and what came after the ranges.
 #[derive(Clone, Copy)]
-pub enum Tail {
-    Nothing,
-    Counts { ect0: u64, ect1: u64, ce: u64 },
+pub struct Ack {
+    pub largest: u64,
+    pub delay: u64,
+    pub ranges: u64,
+    pub used: usize,
+    pub tail: Option<Counts>,
 }
 
-// What reading ACK finds: how many ranges were written beside its numbers, the length used and what came after the ranges, or the refusal.
+// ACK as it was checked, with nothing written: its numbers, where its ranges stand and how many come after the first, the length used and what came after the ranges.
 #[derive(Clone, Copy)]
-pub enum Ack {
-    Frame {
-        largest: u64,
-        delay: u64,
-        ranges: u64,
-        used: usize,
-        tail: Tail,
-    },
-    Ends,
-    OtherType,
-    BelowZero,
-    NoRoom,
-}
-
-// What checking ACK finds, with nothing written: its numbers, where its ranges stand and how many come after the first, the length used and what came after the ranges, or the refusal.
-#[derive(Clone, Copy)]
-pub enum Checked {
-    Frame {
-        largest: u64,
-        delay: u64,
-        at: usize,
-        count: u64,
-        used: usize,
-        tail: Tail,
-    },
-    Ends,
-    OtherType,
-    BelowZero,
+pub struct Checked {
+    pub largest: u64,
+    pub delay: u64,
+    pub at: usize,
+    pub count: u64,
+    pub used: usize,
+    pub tail: Option<Counts>,
 }
 
 // One step over a frame's ranges: a range's smallest, then, where some are left, the largest of the one below it and where its length stands; after the last 0 and the place after it.
 #[derive(Clone, Copy)]
-pub enum Range {
-    Of {
-        smallest: u64,
-        below: u64,
-        next: usize,
-    },
-    Ends,
-    BelowZero,
+pub struct Range {
+    pub smallest: u64,
+    pub below: u64,
+    pub next: usize,
 }
 
-// What stands before a frame's ranges.
+// A frame's type as it was read, and the place after it.
 #[derive(Clone, Copy)]
-enum Header {
-    Numbers {
-        largest: u64,
-        delay: u64,
-        count: u64,
-        at: usize,
-        counted: bool,
-    },
-    Ends,
-    OtherType,
+struct Kind {
+    kind: u64,
+    next: usize,
 }
 
-// How a walk over a frame's ranges ends: at the place after them, or by their first fault.
+// What stands before a frame's ranges, where they stand and whether counts come after them.
 #[derive(Clone, Copy)]
-enum Walk {
-    Whole { used: usize },
-    Ends,
-    BelowZero,
+struct Header {
+    largest: u64,
+    delay: u64,
+    count: u64,
+    at: usize,
+    counted: bool,
 }
 
-// How a frame ends: at the place after its tail, or by the first fault of its ranges and its counts.
+// How a frame ends: what came after its ranges, and the length used.
 #[derive(Clone, Copy)]
-enum Ending {
-    Whole { tail: Tail, used: usize },
-    Ends,
-    BelowZero,
-}
-
-impl Frequency {
-    // The paper's number for the answer, 0 for accepted.
-    pub fn refusal(self) -> u64
-        ensures { result ≡ frequency_refusal self }
-    {
-        match self {
-            Frequency::Frame {
-                sequence: _,
-                threshold: _,
-                delay: _,
-                reordering: _,
-                used: _,
-            } => 0,
-            Frequency::Ends => 2,
-            Frequency::OtherType => 3,
-        }
-    }
-}
-
-impl Immediate {
-    // The paper's number for the answer, 0 for accepted.
-    pub fn refusal(self) -> u64
-        ensures { result ≡ immediate_refusal self }
-    {
-        match self {
-            Immediate::Frame { used: _ } => 0,
-            Immediate::Ends => 2,
-            Immediate::OtherType => 3,
-        }
-    }
-}
-
-impl Ack {
-    // The paper's number for the answer, 0 for accepted.
-    pub fn refusal(self) -> u64
-        ensures { result ≡ ack_refusal self }
-    {
-        match self {
-            Ack::Frame {
-                largest: _,
-                delay: _,
-                ranges: _,
-                used: _,
-                tail: _,
-            } => 0,
-            Ack::Ends => 2,
-            Ack::OtherType => 3,
-            Ack::BelowZero => 14,
-            Ack::NoRoom => 9,
-        }
-    }
-}
-
-impl Checked {
-    // The paper's number for the answer, 0 for accepted.
-    pub fn refusal(self) -> u64
-        ensures { result ≡ checked_refusal self }
-    {
-        match self {
-            Checked::Frame {
-                largest: _,
-                delay: _,
-                at: _,
-                count: _,
-                used: _,
-                tail: _,
-            } => 0,
-            Checked::Ends => 2,
-            Checked::OtherType => 3,
-            Checked::BelowZero => 14,
-        }
-    }
+struct Ending {
+    tail: Option<Counts>,
+    used: usize,
 }

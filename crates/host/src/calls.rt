@@ -8,7 +8,7 @@ ghost use Rattle.ecn.specs.Given.{mark_of, kind_of};
 ghost use Rattle.receiver.specs.Given.{millis, micros};
 ghost use Rattle.host.specs.Calls.{verdict_out, heard_out};
 
-use ecn::given;
+use ecn::{Kind, Mark};
 use receiver::{Answer, Heard, Millis, Receiver, Verdict, Wrote};
 use seen::Micros;
 
@@ -50,7 +50,7 @@ pub extern "C" fn lumbixet_packet(
 ) -> Answer
     ensures { result ≡ packet_call receiver number (micros time) eliciting (mark_of ecn) }
 {
-    let mark = given::mark_of(ecn);
+    let mark = Mark::from(ecn);
     receiver.packet(number, Micros(time), eliciting, mark)
 }
 
@@ -106,6 +106,6 @@ pub extern "C" fn lumbixet_write(
 ) -> Wrote
     ensures { (result ≡ write_answer receiver (micros time) (kind_of counts) buffer.old) × (buffer.new ≡ write_bytes receiver (micros time) (kind_of counts) buffer.old) }
 {
-    let kind = given::kind_of(counts);
+    let kind = Kind::from(counts);
     receiver.write(Micros(time), kind, buffer)
 }

@@ -5,133 +5,84 @@ ghost use Rattle.frames.specs.Frequency.{read_frequency, frequency};
 ghost use Rattle.frames.specs.Immediate.{read_immediate, immediate};
 ghost use Rattle.frames.specs.Ack.{read_ack};
 ghost use Rattle.host_codec.specs.Numbers.{put_out};
-ghost use Rattle.host_codec.specs.Frames.{no_frequency, frequency_out, immediate_out, no_ack, counts_out, ack_out};
+ghost use Rattle.host_codec.specs.Frames.{frequency_out, immediate_out, ack_out};
 
 use crate::numbers::put_out;
-use crate::{AckOut, CountsOut, FrequencyOut, ImmediateOut, PutOut};
-use frames::{Ack, Frequency, Immediate, Tail};
+use crate::{AckOut, FrequencyOut, ImmediateOut, PutOut};
+use frames::{Ack, Counts, Frequency};
+use wire::Refusal;
 
-// A refused frame has no values.
-fn no_frequency(res: u64) -> FrequencyOut
-    ensures { result ≡ no_frequency res }
-{
-    FrequencyOut {
-        result: res,
-        sequence: 0,
-        threshold: 0,
-        delay: 0,
-        reordering: 0,
-        used: 0,
-    }
-}
+// A frame of type 02 has no counts.
+const NO_COUNTS: Counts = Counts {
+    ect0: 0,
+    ect1: 0,
+    ce: 0,
+};
 
 // The frame's four values and its length, or the refusal.
-pub fn frequency_out(answer: Frequency) -> FrequencyOut
+#[tactic(auto, unfolding(crate::specs::Frames::frequency_out))]
+pub fn frequency_out(answer: Result<Frequency, Refusal>) -> FrequencyOut
     ensures { result ≡ frequency_out answer }
 {
-    let result = answer.refusal();
     match answer {
-        Frequency::Frame {
-            sequence,
-            threshold,
-            delay,
-            reordering,
-            used,
-        } => FrequencyOut {
-            result,
-            sequence,
-            threshold,
-            delay,
-            reordering,
-            used: used as u64,
+        Ok(frame) => FrequencyOut {
+            result: 0,
+            sequence: frame.sequence,
+            threshold: frame.threshold,
+            delay: frame.delay,
+            reordering: frame.reordering,
+            used: frame.used as u64,
         },
-        Frequency::Ends => no_frequency(result),
-        Frequency::OtherType => no_frequency(result),
+        // A refused frame has no values.
+        Err(refusal) => FrequencyOut {
+            result: refusal.number(),
+            ..FrequencyOut::default()
+        },
     }
 }
 
 // The frame's length, or the refusal.
-fn immediate_out(answer: Immediate) -> ImmediateOut
+#[tactic(auto, unfolding(crate::specs::Frames::immediate_out))]
+fn immediate_out(answer: Result<usize, Refusal>) -> ImmediateOut
     ensures { result ≡ immediate_out answer }
 {
-    let result = answer.refusal();
     match answer {
-        Immediate::Frame { used } => ImmediateOut {
-            result,
+        Ok(used) => ImmediateOut {
+            result: 0,
             used: used as u64,
         },
-        Immediate::Ends => ImmediateOut { result, used: 0 },
-        Immediate::OtherType => ImmediateOut { result, used: 0 },
-    }
-}
-
-// A refused frame has no values.
-fn no_ack(res: u64) -> AckOut
-    ensures { result ≡ no_ack res }
-{
-    AckOut {
-        result: res,
-        largest: 0,
-        delay: 0,
-        ranges: 0,
-        used: 0,
-        counts: 0,
-        ect0: 0,
-        ect1: 0,
-        ce: 0,
-    }
-}
-
-// The three counts of a frame of type 03, or none.
-fn counts_out(tail: Tail) -> CountsOut
-    ensures { result ≡ counts_out tail }
-{
-    match tail {
-        Tail::Nothing => CountsOut {
-            counts: 0,
-            ect0: 0,
-            ect1: 0,
-            ce: 0,
-        },
-        Tail::Counts { ect0, ect1, ce } => CountsOut {
-            counts: 1,
-            ect0,
-            ect1,
-            ce,
+        Err(refusal) => ImmediateOut {
+            result: refusal.number(),
+            ..ImmediateOut::default()
         },
     }
 }
 
 // The frame's numbers and its length, or the refusal.
-pub fn ack_out(answer: Ack) -> AckOut
+#[tactic(auto, unfolding(crate::specs::Frames::ack_out))]
+pub fn ack_out(answer: Result<Ack, Refusal>) -> AckOut
     ensures { result ≡ ack_out answer }
 {
-    let result = answer.refusal();
     match answer {
-        Ack::Frame {
-            largest,
-            delay,
-            ranges,
-            used,
-            tail,
-        } => {
-            let said = counts_out(tail);
+        Ok(frame) => {
+            let said = frame.tail.unwrap_or(NO_COUNTS);
             AckOut {
-                result,
-                largest,
-                delay,
-                ranges,
-                used: used as u64,
-                counts: said.counts,
+                result: 0,
+                largest: frame.largest,
+                delay: frame.delay,
+                ranges: frame.ranges,
+                used: frame.used as u64,
+                counts: u64::from(frame.tail.is_some()),
                 ect0: said.ect0,
                 ect1: said.ect1,
                 ce: said.ce,
             }
         }
-        Ack::Ends => no_ack(result),
-        Ack::OtherType => no_ack(result),
-        Ack::BelowZero => no_ack(result),
-        Ack::NoRoom => no_ack(result),
+        // A refused frame has no values.
+        Err(refusal) => AckOut {
+            result: refusal.number(),
+            ..AckOut::default()
+        },
     }
 }
 

@@ -1,5 +1,6 @@
 // For the archive of crate host: numbers and frames, read and written. The crates host_codec_c and host_codec_as export them.
-// Where a lower crate answers an enum, a host gets the paper's number and the case's values, and 0 for what the case has not.
+// Where a lower crate answers a Result, a host gets the paper's number and the case's values, and 0 for what the case has not.
+// That is a function for each answer and no `From`, which is no plainer: the function's name and its contract's are one.
 
 #![tactic(auto)]
 
@@ -14,7 +15,7 @@ pub use numbers::{lumbixet_put_number, lumbixet_read_number};
 
 // A number that was read, the place after it, and 1 where its form was the shortest.
 #[repr(C)]
-#[derive(Clone, Copy)]
+#[derive(Clone, Copy, Default)]
 pub struct NumberOut {
     pub result: u64,
     pub value: u64,
@@ -24,7 +25,7 @@ pub struct NumberOut {
 
 // What a writer of numbers and frames answers: the place after what was written.
 #[repr(C)]
-#[derive(Clone, Copy)]
+#[derive(Clone, Copy, Default)]
 pub struct PutOut {
     pub result: u64,
     pub next: u64,
@@ -32,7 +33,7 @@ pub struct PutOut {
 
 // The four values of an ACK_FREQUENCY frame, and its length.
 #[repr(C)]
-#[derive(Clone, Copy)]
+#[derive(Clone, Copy, Default)]
 pub struct FrequencyOut {
     pub result: u64,
     pub sequence: u64,
@@ -44,7 +45,7 @@ pub struct FrequencyOut {
 
 // An IMMEDIATE_ACK frame's length.
 #[repr(C)]
-#[derive(Clone, Copy)]
+#[derive(Clone, Copy, Default)]
 pub struct ImmediateOut {
     pub result: u64,
     pub used: u64,
@@ -52,7 +53,7 @@ pub struct ImmediateOut {
 
 // An ACK frame's numbers, how many ranges were written to the lent slice, the frame's length, and its counts where it is of type 03.
 #[repr(C)]
-#[derive(Clone, Copy)]
+#[derive(Clone, Copy, Default)]
 pub struct AckOut {
     pub result: u64,
     pub largest: u64,
@@ -64,13 +65,4 @@ pub struct AckOut {
     pub ect0: u64,
     pub ect1: u64,
     pub ce: u64,
-}
-
-// The counts of an ACK frame, where it has them.
-#[derive(Clone, Copy)]
-struct CountsOut {
-    counts: u64,
-    ect0: u64,
-    ect1: u64,
-    ce: u64,
 }

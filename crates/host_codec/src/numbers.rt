@@ -4,45 +4,41 @@ ghost use Rattle.wire.specs.Numbers.{read_number, put_answer, put_bytes};
 ghost use Rattle.host_codec.specs.Numbers.{number_out, put_out};
 
 use crate::{NumberOut, PutOut};
-use wire::{Number, Put};
+use wire::{Number, Refusal};
 
 // A value, the place after it and 1 for the shortest form, or the refusal.
-fn number_out(answer: Number) -> NumberOut
+#[tactic(auto, unfolding(crate::specs::Numbers::number_out))]
+fn number_out(answer: Result<Number, Refusal>) -> NumberOut
     ensures { result ≡ number_out answer }
 {
-    let result = answer.refusal();
     match answer {
-        Number::Value {
-            value,
-            next,
-            shortest,
-        } => NumberOut {
-            result,
-            value,
-            next: next as u64,
-            shortest: shortest as u64,
+        Ok(number) => NumberOut {
+            result: 0,
+            value: number.value,
+            next: number.next as u64,
+            shortest: u64::from(number.shortest),
         },
-        Number::Ends => NumberOut {
-            result,
-            value: 0,
-            next: 0,
-            shortest: 0,
+        Err(refusal) => NumberOut {
+            result: refusal.number(),
+            ..NumberOut::default()
         },
     }
 }
 
 // The place after what was written, or the refusal.
-pub(crate) fn put_out(answer: Put) -> PutOut
+#[tactic(auto, unfolding(crate::specs::Numbers::put_out))]
+pub(crate) fn put_out(answer: Result<usize, Refusal>) -> PutOut
     ensures { result ≡ put_out answer }
 {
-    let result = answer.refusal();
     match answer {
-        Put::Done { next } => PutOut {
-            result,
+        Ok(next) => PutOut {
+            result: 0,
             next: next as u64,
         },
-        Put::TooLarge => PutOut { result, next: 0 },
-        Put::NoRoom => PutOut { result, next: 0 },
+        Err(refusal) => PutOut {
+            result: refusal.number(),
+            ..PutOut::default()
+        },
     }
 }
 

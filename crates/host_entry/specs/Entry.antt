@@ -1,27 +1,16 @@
 -- One entry: "this paper's number and values for each of the enum's cases".
-use Rattle.std.specs.Prelude.{ℕ}
-use Rattle.entries.specs.Refusals.{entry_refusal}
-use Rattle.entries.specs.declared.Status.{Status}
-use Rattle.entries.specs.declared.Status.TheVariants.{Received, Late, NotReceived, Partial}
+use Rattle.std.specs.Prelude.{Result, Ok, Err}
+use Rattle.wire.specs.Refusals.{number_of}
+use Rattle.wire.specs.declared.Refusal.{Refusal}
+use Rattle.entries.specs.Entries.{status_number}
 use Rattle.entries.specs.declared.Entry.{Entry}
-use Rattle.entries.specs.declared.Entry.TheVariants.{Record, Ends, Broken, OtherProfile}
 use Rattle.host_entry.specs.declared.EntryOut.{EntryOut}
 
--- "0 received, 1 late, 2 not received, 3 partial"
-abbrev pub status_out : Status → ℕ
-status_out Received = 0
-status_out Late = 1
-status_out NotReceived = 2
-status_out Partial = 3
-
 -- a refused entry has no values
-abbrev pub no_entry : ℕ → EntryOut
-no_entry result = record { result = result; group = 0; object = 0; status = 0; age = 0 }
+abbrev pub no_entry : Refusal → EntryOut
+no_entry refusal = record { result = number_of refusal; group = 0; object = 0; status = 0; age = 0 }
 
 -- the group, which is 0 in profile 1, "object number", "status", "age"
-unfoldable pub entry_out : Entry → EntryOut
-entry_out (Record group object status age) =
-    record { result = entry_refusal (Record group object status age); group = group; object = object; status = status_out status; age = age }
-entry_out Ends = no_entry (entry_refusal Ends)
-entry_out Broken = no_entry (entry_refusal Broken)
-entry_out OtherProfile = no_entry (entry_refusal OtherProfile)
+abbrev pub entry_out : Result Entry Refusal → EntryOut
+entry_out (Ok e) = record { result = 0; group = e.group; object = e.object; status = status_number e.status; age = e.age }
+entry_out (Err refusal) = no_entry refusal

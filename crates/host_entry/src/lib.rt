@@ -1,14 +1,15 @@
 // For the archive of crate host: one entry of a report under its C name. It is apart from the whole reader, so that what judges an entry
 // goes in line in either.
-// Where a lower crate answers an enum, a host gets the paper's number and the case's values, and 0 for what the case has not.
+// Where a lower crate answers a Result, a host gets the paper's number and the values, and 0 for what a refusal has not.
 
 #![tactic(auto)]
 
 ghost use Rattle.std.specs.Prelude.{◌≡◌};
 ghost use Rattle.entries.specs.Entries.{entry_by};
-ghost use Rattle.host_entry.specs.Entry.{status_out, no_entry, entry_out};
+ghost use Rattle.host_entry.specs.Entry.{no_entry, entry_out};
 
-use report::{Entry, Status};
+use report::Entry;
+use wire::Refusal;
 
 // One entry of a report.
 #[repr(C)]
@@ -21,24 +22,12 @@ pub struct EntryOut {
     pub age: u64,
 }
 
-// 0 received, 1 late, 2 not received, 3 partial.
-fn status_out(status: Status) -> u64
-    ensures { result ≡ status_out status }
-{
-    match status {
-        Status::Received => 0,
-        Status::Late => 1,
-        Status::NotReceived => 2,
-        Status::Partial => 3,
-    }
-}
-
 // A refused entry has no values.
-fn no_entry(res: u64) -> EntryOut
-    ensures { result ≡ no_entry res }
+fn no_entry(refusal: Refusal) -> EntryOut
+    ensures { result ≡ no_entry refusal }
 {
     EntryOut {
-        result: res,
+        result: refusal.number(),
         group: 0,
         object: 0,
         status: 0,
@@ -47,29 +36,18 @@ fn no_entry(res: u64) -> EntryOut
 }
 
 // The entry's values, or the refusal.
-fn entry_out(answer: Entry) -> EntryOut
+fn entry_out(answer: Result<Entry, Refusal>) -> EntryOut
     ensures { result ≡ entry_out answer }
 {
-    let result = answer.refusal();
     match answer {
-        Entry::Record {
-            group,
-            object,
-            status,
-            age,
-        } => {
-            let kind = status_out(status);
-            EntryOut {
-                result,
-                group,
-                object,
-                status: kind,
-                age,
-            }
-        }
-        Entry::Ends => no_entry(result),
-        Entry::Broken => no_entry(result),
-        Entry::OtherProfile => no_entry(result),
+        Ok(entry) => EntryOut {
+            result: 0,
+            group: entry.group,
+            object: entry.object,
+            status: entry.status.number(),
+            age: entry.age,
+        },
+        Err(refusal) => no_entry(refusal),
     }
 }
 

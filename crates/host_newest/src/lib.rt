@@ -1,13 +1,14 @@
 // The archive's call for the newest lost object, as include/lumbixet_report.h declares it.
-// A host gets the paper's number and the case's values, and 0 for what the case has not.
+// A host gets the paper's number and the values, and 0 for what an answer has not.
 
 #![tactic(auto)]
 
 ghost use Rattle.std.specs.Prelude.{◌≡◌};
 ghost use Rattle.newest.specs.Newest.{newest_by};
-ghost use Rattle.host_newest.specs.Newest.{newest_out};
+ghost use Rattle.host_newest.specs.Newest.{no_object, newest_out};
 
-use newest::Newest;
+use newest::Lost;
+use wire::Refusal;
 
 // The last object of a report that was not received: 1 in found where there is one, and its group and number.
 #[repr(C)]
@@ -19,30 +20,31 @@ pub struct NewestOut {
     pub object: u64,
 }
 
+// No object, with the paper's number.
+fn no_object(number: u64) -> NewestOut
+    ensures { result ≡ no_object number }
+{
+    NewestOut {
+        result: number,
+        found: 0,
+        group: 0,
+        object: 0,
+    }
+}
+
 // The object, that there is none, or the refusal.
-fn newest_out(answer: Newest) -> NewestOut
+fn newest_out(answer: Result<Option<Lost>, Refusal>) -> NewestOut
     ensures { result ≡ newest_out answer }
 {
-    let result = answer.refusal();
     match answer {
-        Newest::Found { group, object } => NewestOut {
-            result,
+        Ok(Some(lost)) => NewestOut {
+            result: 0,
             found: 1,
-            group,
-            object,
+            group: lost.group,
+            object: lost.object,
         },
-        Newest::Nothing => NewestOut {
-            result,
-            found: 0,
-            group: 0,
-            object: 0,
-        },
-        Newest::Refused(_) => NewestOut {
-            result,
-            found: 0,
-            group: 0,
-            object: 0,
-        },
+        Ok(None) => no_object(0),
+        Err(refusal) => no_object(refusal.number()),
     }
 }
 

@@ -29,7 +29,7 @@ module _ (p : Profile) (s : List ℕ) where
   no-longer-in = by (judged p s) refl
     where
       by : (r : Reading) → judged p s ≡ r → length (entries_in p s r) ≤ length s
-      by (Stopped n) e = zero-le
+      by (Stopped refusal) e = zero-le
       by (Whole ns at) e = let l = part_length ns at (judged-whole p s ns at (sym e)) in omega arith
 
   part-found-in : take (length (entries_of p s)) (drop (length s - length (entries_of p s)) s) ≡ entries_of p s
@@ -43,7 +43,7 @@ module _ (p : Profile) (s : List ℕ) where
       count a b n e = omega arith
 
       by : (r : Reading) → judged p s ≡ r → take (length (entries_in p s r)) (drop (length s - length (entries_in p s r)) s) ≡ entries_in p s r
-      by (Stopped n) e = refl
+      by (Stopped refusal) e = refl
       by (Whole ns at) e =
           let j = judged-whole p s ns at (sym e) in
           rw (part_length ns at j, start at (record_size p * count_of ns) (length s) j.end, count at (record_size p * count_of ns) (length s) j.end)

@@ -1,5 +1,5 @@
 // For the archive of crate host: the week's totals under their C names.
-// Where a lower crate answers an enum, a host gets the paper's number and the case's values, and 0 for what the case has not.
+// Where a lower crate answers a Result, a host gets the paper's number and the values, and 0 for what a refusal has not.
 
 #![tactic(auto)]
 

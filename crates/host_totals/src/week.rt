@@ -6,20 +6,21 @@ ghost use Rattle.host_totals.specs.Week.{page_out};
 
 use crate::PageOut;
 use totals::{Added, Standing, Taken};
-use wire::Put;
+use wire::Refusal;
 
 // The length of the page, or the refusal.
-fn page_out(answer: Put) -> PageOut
+fn page_out(answer: Result<usize, Refusal>) -> PageOut
     ensures { result ≡ page_out answer }
 {
-    let result = answer.refusal();
     match answer {
-        Put::Done { next } => PageOut {
-            result,
+        Ok(next) => PageOut {
+            result: 0,
             length: next as u64,
         },
-        Put::TooLarge => PageOut { result, length: 0 },
-        Put::NoRoom => PageOut { result, length: 0 },
+        Err(refusal) => PageOut {
+            result: refusal.number(),
+            length: 0,
+        },
     }
 }
 

@@ -5,6 +5,7 @@ ghost use Rattle.tracker.specs.Report.{report_answer, report_bytes};
 
 use report::Report;
 use tracker::WORDS;
+use wire::refusal_number;
 
 // Opens a tracker for 256 objects.
 #[unsafe(no_mangle)]
@@ -15,7 +16,8 @@ pub extern "C" fn lumbixet_tracker_open(
 ) -> u64
     ensures { (result ≡ open_refusal first interval) × (tracker.new ≡ open_after tracker.old first interval) }
 {
-    tracker::open(tracker, first, interval)
+    let answer = tracker::open(tracker, first, interval);
+    refusal_number(&answer)
 }
 
 // An object arrives; its deadline is an end, one past it, and 0 for none.
@@ -28,7 +30,8 @@ pub extern "C" fn lumbixet_tracker_arrived(
 ) -> u64
     ensures { (result ≡ arrived_refusal tracker.old object time deadline) × (tracker.new ≡ arrived_after tracker.old object time deadline) }
 {
-    tracker::arrived(tracker, object, time, deadline)
+    let answer = tracker::arrived(tracker, object, time, deadline);
+    refusal_number(&answer)
 }
 
 // An object ended early.
@@ -40,7 +43,8 @@ pub extern "C" fn lumbixet_tracker_ended_early(
 ) -> u64
     ensures { (result ≡ ended_refusal tracker.old object time) × (tracker.new ≡ ended_after tracker.old object time) }
 {
-    tracker::ended_early(tracker, object, time)
+    let answer = tracker::ended_early(tracker, object, time);
+    refusal_number(&answer)
 }
 
 // Makes the summary and the entries for a time and a report interval.

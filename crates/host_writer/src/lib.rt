@@ -1,6 +1,6 @@
 // For the archive of crate host: the writer of reports under its C name. It is apart from the readers, so that what judges an entry
 // goes in line in either.
-// Where a lower crate answers an enum, a host gets the paper's number and the case's values, and 0 for what the case has not.
+// Where a lower crate answers a Result, a host gets the paper's number, 0 for accepted, and the values, and 0 for what a refusal has not.
 
 #![tactic(auto)]
 
@@ -9,6 +9,7 @@ ghost use Rattle.report.specs.Writer.{answer_by, bytes_by};
 ghost use Rattle.host_writer.specs.Writer.{written_out};
 
 use report::{Header, Written};
+use wire::Refusal;
 
 // What the writer of reports answers: the length of the report, and how many records were kept.
 #[repr(C)]
@@ -19,19 +20,18 @@ pub struct WrittenOut {
     pub kept: u64,
 }
 
-// The length of the report and how many records it keeps, or the refusal.
-fn written_out(answer: Written) -> WrittenOut
+// The length of the report and how many records it keeps, or the refusal; a From that is used once is no plainer.
+fn written_out(answer: Result<Written, Refusal>) -> WrittenOut
     ensures { result ≡ written_out answer }
 {
-    let result = answer.refusal();
     match answer {
-        Written::Done { next, kept } => WrittenOut {
-            result,
+        Ok(Written { next, kept }) => WrittenOut {
+            result: 0,
             next: next as u64,
             kept: kept as u64,
         },
-        Written::Refused(_) => WrittenOut {
-            result,
+        Err(refusal) => WrittenOut {
+            result: refusal.number(),
             next: 0,
             kept: 0,
         },

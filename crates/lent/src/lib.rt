@@ -12,7 +12,7 @@ ghost use Rattle.receiver.specs.Calls.{timer_call};
 ghost use Rattle.receiver.specs.Write.{write_answer, write_bytes};
 ghost use Rattle.lent.specs.Lent.{wrote_lent};
 
-use ecn::given;
+use ecn::{Kind, Mark};
 use receiver::Receiver;
 use seen::Micros;
 
@@ -38,7 +38,7 @@ pub extern "C" fn lumbixet_packet_lent(
     ensures { (result ≡ (packet_call receiver.old number (micros time) eliciting (mark_of ecn)).result)
         × (receiver.new ≡ (packet_call receiver.old number (micros time) eliciting (mark_of ecn)).next) }
 {
-    let mark = given::mark_of(ecn);
+    let mark = Mark::from(ecn);
     let answer = Receiver::packet(*receiver, number, Micros(time), eliciting, mark);
     *receiver = answer.next;
     answer.result
@@ -67,7 +67,7 @@ pub extern "C" fn lumbixet_write_lent(
         × (receiver.new ≡ (write_answer receiver.old (micros time) (kind_of counts) buffer.old).next)
         × (buffer.new ≡ write_bytes receiver.old (micros time) (kind_of counts) buffer.old) }
 {
-    let kind = given::kind_of(counts);
+    let kind = Kind::from(counts);
     let wrote = Receiver::write(*receiver, Micros(time), kind, buffer);
     *receiver = wrote.next;
     WroteLent {

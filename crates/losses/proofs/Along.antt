@@ -2,36 +2,28 @@
 -- Assumes nothing.
 use Prim.Native.Nat.{ℕ, zero, suc, ◌+◌, ◌-◌, ◌/◌, ◌%◌, ◌^◌, ◌≤◌, ◌<◌}
 use mathlib.Core.Path.{◌≡◌, refl, sym, ap, ap₂, ◌∙◌, subst}
-use mathlib.Core.Bool.{Bool, true, false, not, ◌&&◌, ◌||◌}
-use mathlib.Core.List.{List, [], ◌++◌}
+use mathlib.Core.Bool.{Bool}
+use mathlib.Core.List.{List, ◌++◌}
 use native.Mathlib.Decide.{dec_le}
 use native.Mathlib.Omega.{arith}
-use borrow.Author.Tests.{lt-leb, lt-ltb, le-ltb, eqb-true, eqb-false}
-use lib.Dec.{leb, ltb, eqb}
-use lib.ListN.{length, get_or, replicate, get_or-replicate}
-use lib.Pow.{pow_pos}
+use lib.Dec.{eqb}
+use lib.ListN.{length, get_or}
 use Rattle.wire.specs.Bytes.{pick}
 use Rattle.wire.specs.Numbers.{limit}
 use Rattle.window.specs.Words.{bit}
 use Rattle.window.proofs.Bits.{bit-lt}
-use Rattle.frames.specs.Ack.{check_ack}
-use Rattle.marks.specs.Marks.{listed, each, bits_of, number_at, ring_of}
+use Rattle.marks.specs.Marks.{each, bits_of, number_at, ring_of}
 use Rattle.marks.proofs.Listing.{listed_same}
 use Rattle.marks.proofs.Rings.{get_or-each, get_d_after, bits-lt}
-use Rattle.sent.specs.Record.{State, Outstanding, Acknowledged, Lost, is_acknowledged, is_lost, most_held, next_of, acked_before, lost_before, end_of, floor_of, acked_at, lost_at, state_at, is_due, record_of, consistent}
-use Rattle.sent.specs.Calls.{opened, acked_bit, lost_bit, send_refusal, send_after, unless_refused, with_sent}
-use Rattle.sent.specs.Heard.{within, end_after, heard_state, state_after, Hearing, accepted_as, hear}
+use Rattle.sent.specs.Record.{State, Outstanding, is_acknowledged, is_lost, most_held, next_of, acked_before, lost_before, acked_at, lost_at, is_due, record_of}
+use Rattle.sent.specs.Calls.{acked_bit, lost_bit, with_sent}
+use Rattle.sent.specs.Heard.{within, end_after, heard_state, state_after}
 use Rattle.sent.specs.Exactly.{HasMarks, Consistent, IsFull}
-use Rattle.sent.proofs.Sound.{sound}
-use Rattle.sent.proofs.Exactly.{exactly}
-use Rattle.sent.proofs.Stays.{hear-stays}
 use Rattle.sent.proofs.Records.{record_is, says-next, says-acked-before, says-lost-before, says-end, says-acked, says-lost, says-state}
-use Rattle.losses.specs.Sequence.{Calls, none, ◌then◌, send_next, hear_frame, after, sending, hearing}
-use Rattle.losses.specs.Told.{largest_in, ranges_in, sent_told, forgotten, end_told, told, count_of, record_told}
+use Rattle.losses.specs.Told.{count_of}
 use Rattle.losses.proofs.Sending.{sent-long, sent-fits, sent-next, sent-acked-before, sent-lost-before, sent-end, new-acked, new-lost, old-acked, old-lost}
-use Rattle.losses.proofs.Framed.{Accepted, used_in, within_low, accepted-is}
-use Rattle.losses.proofs.Kept.{kept, by-room, given-up, opened-acked, opened-lost}
-use Rattle.losses.proofs.Counting.{count_none, count_next}
+use Rattle.losses.proofs.Kept.{by-room, given-up}
+use Rattle.losses.proofs.Counting.{count_next}
 
 -- ---- records by states
 

@@ -6,22 +6,21 @@ use mathlib.Core.Bool.{Bool, true, false, not, ◌&&◌, ◌||◌}
 use mathlib.Core.List.{List, [], ◌++◌}
 use native.Mathlib.Omega.{arith}
 use borrow.Author.Tests.{lt-ltb, le-ltb}
-use lib.ListN.{length}
-use Rattle.wire.specs.Numbers.{limit}
-use Rattle.frames.specs.Ack.{ranges_from, check_ack}
+use Rattle.std.specs.Prelude.{Result, Ok, Err}
+use Rattle.wire.specs.declared.Refusal.{Refusal}
+use Rattle.frames.specs.Ack.{check_ack}
 use Rattle.frames.specs.declared.Checked.{Checked}
-use Rattle.frames.specs.declared.Checked.TheVariants.{Frame, Ends, OtherType, BelowZero}
 use Rattle.marks.specs.Marks.{listed}
 use Rattle.marks.proofs.Listing.{list-none, first-none, listed_same}
-use Rattle.sent.specs.Record.{State, Outstanding, is_acknowledged, is_lost, most_held, next_of, acked_before, lost_before, floor_of, acked_at, lost_at, state_at, is_outstanding, is_due, record_of, consistent}
-use Rattle.sent.specs.Calls.{send_refusal, send_answer, unless_refused}
+use Rattle.sent.specs.Record.{State, Outstanding, is_acknowledged, is_lost, most_held, next_of, acked_before, lost_before, floor_of, state_at, is_outstanding, is_due, record_of}
+use Rattle.sent.specs.Calls.{unless_refused}
 use Rattle.sent.specs.Heard.{Hearing, within, end_after, heard_state, state_after, newly, newly_in, hear}
 use Rattle.sent.specs.Exactly.{Consistent, IsFull, Checks, HasRoom}
 use Rattle.sent.proofs.Sound.{sound}
 use Rattle.sent.proofs.Exactly.{exactly}
 use Rattle.sent.proofs.Stays.{hear-stays}
 use Rattle.sent.proofs.Records.{says-next, says-state, says-acked, says-lost, says-acked-before, says-lost-before}
-use Rattle.losses.specs.Sequence.{Calls, ◌then◌, hear_frame, after, sending, hearing}
+use Rattle.losses.specs.Sequence.{Calls, after, hearing}
 use Rattle.losses.specs.Told.{largest_in, ranges_in, sent_told, forgotten, end_told, told, count_of, record_told}
 use Rattle.losses.specs.Answers.{SendTold, SendsTold, SixteenFirst, would_tell, would_list, RoomFor, ThenNine, ForgottenStay}
 use Rattle.losses.proofs.Framed.{accepted-is}
@@ -121,11 +120,9 @@ module _ (cs : Calls) (s : List ℕ) (is : State → Bool) where
       ∙ sym (ap (λ (x : ℕ). listed by-calls x 0) (sym all) ∙ listed-split by-calls f (k - f) 0 ∙ ap₂ (λ (l : List ℕ) (x : ℕ). l ++ listed by-calls (k - f) x) none-gone from)
 
 -- a frame that is checked, and what follows from what holds of it
-checked-so : (s : List ℕ) (P Q : ℕ → List ℕ → Type 0) (k : Checked) → (P (largest_in k) (ranges_in s k) → Q (largest_in k) (ranges_in s k)) → Checks s k P → Checks s k Q
-checked-so s P Q (Frame top delay at count used tail) f p = f p
-checked-so s P Q Ends f p = p
-checked-so s P Q OtherType f p = p
-checked-so s P Q BelowZero f p = p
+checked-so : (s : List ℕ) (P Q : ℕ → List ℕ → Type 0) (k : Result Checked Refusal) → (P (largest_in k) (ranges_in s k) → Q (largest_in k) (ranges_in s k)) → Checks s k P → Checks s k Q
+checked-so s P Q (Ok c) f p = f p
+checked-so s P Q (Err refusal) f p = p
 
 pub sixteen-first : SixteenFirst
 sixteen-first cs s ackedRoom lostRoom h =

@@ -2,22 +2,21 @@
 -- Assumes nothing.
 use Prim.Native.Nat.{ℕ, zero, suc, ◌+◌, ◌-◌, ◌/◌, ◌%◌, ◌≤◌, ◌<◌}
 use mathlib.Core.Path.{◌≡◌, refl, sym, ap, ap₂, ◌∙◌, subst}
-use mathlib.Core.Bool.{Bool, true, false, not, ◌&&◌, ◌||◌}
+use mathlib.Core.Bool.{Bool, true, false, not, ◌||◌}
 use mathlib.Core.List.{List}
 use native.Mathlib.Decide.{dec_le}
 use native.Mathlib.Omega.{arith}
-use borrow.Author.Tests.{le-leb, lt-leb, leb-true, eqb-true, eqb-false}
-use lib.Dec.{leb, eqb}
+use borrow.Author.Tests.{le-leb, lt-leb, eqb-true, eqb-false}
+use lib.Dec.{eqb}
 use lib.ListN.{length, get_or, replicate, get_or-replicate}
-use Rattle.wire.specs.Bytes.{pick}
 use Rattle.wire.specs.Numbers.{limit}
 use Rattle.window.specs.Words.{bit}
 use Rattle.window.specs.Window.{is_set}
 use Rattle.window.proofs.Bits.{bit-lt}
 use Rattle.frames.specs.Ack.{check_ack}
 use Rattle.marks.proofs.Bits.{set-zero}
-use Rattle.sent.specs.Record.{State, Outstanding, Acknowledged, Lost, is_acknowledged, is_lost, most_held, next_of, acked_before, lost_before, end_of, floor_of, acked_at, lost_at, state_of, state_at, is_outstanding, is_due, record_of, consistent}
-use Rattle.sent.specs.Calls.{opened, acked_bit, lost_bit, is_held_back, send_refusal, send_after, unless_refused, with_sent}
+use Rattle.sent.specs.Record.{State, Outstanding, Acknowledged, Lost, is_acknowledged, is_lost, most_held, next_of, acked_before, lost_before, floor_of, acked_at, lost_at, state_of, state_at, record_of, consistent}
+use Rattle.sent.specs.Calls.{opened, acked_bit, lost_bit, send_refusal, send_after, unless_refused, with_sent}
 use Rattle.sent.specs.Heard.{within, end_after, heard_state, state_after, Hearing, hear}
 use Rattle.sent.specs.Exactly.{HasMarks, Consistent, IsFull}
 use Rattle.sent.proofs.Sound.{clash, sound, complete}
@@ -26,7 +25,7 @@ use Rattle.sent.proofs.Stays.{hear-stays}
 use Rattle.sent.proofs.Records.{says-next, says-acked-before, says-lost-before, says-end, says-acked, says-lost}
 use Rattle.losses.specs.Told.{largest_in, ranges_in}
 use Rattle.losses.specs.Kept.{Kept}
-use Rattle.losses.proofs.Sending.{sent-next, sent-acked-before, sent-lost-before, sent-end, new-acked, new-lost, old-acked, old-lost}
+use Rattle.losses.proofs.Sending.{sent-next, sent-acked-before, sent-lost-before, sent-end, new-acked, old-acked, old-lost}
 use Rattle.losses.proofs.Framed.{within_low, accepted-is}
 
 -- ---- marks and states

@@ -1,23 +1,23 @@
 -- What the answers list: one frame's lists are exactly the changes of state, and so over all frames no number is listed twice.
 -- Assumes nothing.
-use Prim.Native.Nat.{ℕ, zero, suc, ◌+◌, ◌-◌, ◌≤◌, ◌<◌}
+use Prim.Native.Nat.{ℕ, suc, ◌+◌, ◌-◌, ◌≤◌, ◌<◌}
 use mathlib.Core.Path.{◌≡◌, refl, sym, ap, ap₂, ◌∙◌, subst}
 use mathlib.Core.Bool.{Bool, true, false, not, ◌&&◌}
-use mathlib.Core.List.{List, []}
+use mathlib.Core.List.{List}
 use native.Mathlib.Decide.{dec_le}
 use native.Mathlib.Omega.{arith}
 use Rattle.wire.specs.Bytes.{pick}
 use Rattle.frames.specs.Ack.{check_ack}
 use Rattle.marks.specs.Marks.{listed}
 use Rattle.sent.specs.Record.{State, Outstanding, Acknowledged, Lost, is_acknowledged, is_lost, most_held, next_of, floor_of, state_at, is_due}
-use Rattle.sent.specs.Heard.{within, end_after, heard_state, state_after, newly, newly_in, Hearing, hear}
+use Rattle.sent.specs.Heard.{within, end_after, heard_state, state_after, newly, newly_in, Hearing}
 use Rattle.sent.proofs.Stays.{hear-stays}
 use Rattle.sent.proofs.Records.{says-next, says-state}
 use Rattle.losses.specs.Sequence.{Calls, none, ◌then◌, send_next, hear_frame, after, hearing}
-use Rattle.losses.specs.Told.{largest_in, ranges_in, sent_told, forgotten, end_told, told, is_out, count_of, record_told, times, Rises, listed_acked, listed_lost, ListsOf, ListsAreChanges, OnceOf, ListedOnce}
+use Rattle.losses.specs.Told.{largest_in, ranges_in, sent_told, forgotten, end_told, told, is_out, count_of, record_told, times, Rises, listed_acked, listed_lost, ListsOf, ListsAreChanges, ListedOnce}
 use Rattle.losses.proofs.Counting.{times_none, times-before, times-past, times-in, none-rises, listed-rises}
 use Rattle.losses.proofs.Along.{same-state}
-use Rattle.losses.proofs.Told.{Holds, holds, either_way, frame-end, held-told, gone-told, accepted, frame_fresh, refused-told, refused-not}
+use Rattle.losses.proofs.Told.{holds, either_way, frame-end, held-told, gone-told, accepted, frame_fresh, refused-told, refused-not}
 
 -- ---- one frame
 

@@ -2,27 +2,24 @@
 -- Assumes nothing.
 use Prim.Native.Nat.{ℕ, zero, suc, ◌+◌, ◌-◌, ◌^◌, ◌≤◌, ◌<◌}
 use mathlib.Core.Path.{◌≡◌, refl, sym, ap, ap₂, ◌∙◌, subst}
-use mathlib.Core.Bool.{Bool, true, false, not, ◌||◌}
+use mathlib.Core.Bool.{Bool, true, not, ◌||◌}
 use mathlib.Core.List.{List}
 use native.Mathlib.Omega.{arith}
 use borrow.Author.Tests.{lt-leb, lt-ltb, le-ltb}
-use lib.Dec.{leb, ltb}
-use lib.ListN.{length, get_or, replicate, get_or-replicate}
+use lib.ListN.{length, get_or-replicate}
 use lib.Pow.{pow_pos}
-use Rattle.wire.specs.Bytes.{pick}
 use Rattle.frames.specs.Ack.{check_ack}
 use Rattle.marks.specs.Marks.{listed}
 use Rattle.marks.proofs.Listing.{listed_same}
-use Rattle.sent.specs.Record.{State, Outstanding, Acknowledged, Lost, is_acknowledged, is_lost, most_held, next_of, acked_before, lost_before, end_of, floor_of, acked_at, lost_at, is_outstanding, is_due, record_of, consistent}
-use Rattle.sent.specs.Calls.{opened, send_refusal, send_after, unless_refused, with_sent}
+use Rattle.sent.specs.Record.{State, Outstanding, Acknowledged, Lost, is_acknowledged, is_lost, most_held, next_of, acked_before, lost_before, end_of, acked_at, lost_at, is_outstanding, is_due, record_of, consistent}
+use Rattle.sent.specs.Calls.{opened, send_refusal, unless_refused, with_sent}
 use Rattle.sent.specs.Heard.{within, end_after, heard_state, state_after, Hearing, hear}
-use Rattle.sent.specs.Exactly.{Consistent}
 use Rattle.sent.proofs.Sound.{sound}
 use Rattle.sent.proofs.Exactly.{exactly}
 use Rattle.sent.proofs.Stays.{hear-stays}
 use Rattle.sent.proofs.Records.{record_is, says-next, says-acked-before, says-lost-before, says-end, says-acked, says-lost}
 use Rattle.losses.specs.Sequence.{Calls, none, ◌then◌, send_next, hear_frame, after, sending, hearing}
-use Rattle.losses.specs.Told.{largest_in, ranges_in, sent_told, forgotten, end_told, then_told, told, is_out, count_of, record_told, ToldOf, ToldAlways, held_as, acknowledged_of, lost_of, outstanding_of, TotalsOf, TotalsAddUp}
+use Rattle.losses.specs.Told.{largest_in, ranges_in, sent_told, forgotten, end_told, then_told, told, is_out, count_of, record_told, ToldAlways, held_as, acknowledged_of, lost_of, outstanding_of, TotalsAddUp}
 use Rattle.losses.proofs.Framed.{Accepted, within_low, accepted-is}
 use Rattle.losses.proofs.Kept.{kept, opened-acked, opened-lost}
 use Rattle.losses.proofs.Counting.{count_none, count-parts, three_ways}

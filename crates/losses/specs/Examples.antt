@@ -1,6 +1,6 @@
 -- Settled cases of the loss list (02, No. 9), which antt computes: on each of them an answer that looks right says something else.
 use Rattle.std.specs.Prelude.{ℕ, ◌≡◌, List, [], ◌∷◌}
-use Rattle.sent.specs.Record.{State, Outstanding, Acknowledged, Lost, is_acknowledged, is_lost}
+use Rattle.sent.specs.Record.{Outstanding, Acknowledged, Lost, is_lost}
 use Rattle.losses.specs.Sequence.{Calls, none, ◌then◌, send_next, hear_frame, hearing}
 use Rattle.losses.specs.Told.{told, times}
 use Rattle.losses.specs.Answers.{would_list}

@@ -1,28 +1,24 @@
 -- What the calls on a loss list tell of each number, and what holds of it over every list of calls from an opening.
-use Rattle.std.specs.Prelude.{ℕ, ◌+◌, ◌-◌, ◌≤◌, ◌<◌, ◌≡◌, Bool, true, false, List, [], ◌∷◌, ltb, eqb, length}
+use Rattle.std.specs.Prelude.{ℕ, ◌+◌, ◌-◌, ◌≤◌, ◌<◌, ◌≡◌, Bool, true, false, List, [], ◌∷◌, Result, Ok, Err, ltb, eqb, length}
 use Rattle.wire.specs.Bytes.{pick}
-use Rattle.frames.specs.Ack.{ranges_from, check_ack}
+use Rattle.wire.specs.declared.Refusal.{Refusal}
+use Rattle.frames.specs.Ack.{check_ack}
 use Rattle.frames.specs.declared.Checked.{Checked}
-use Rattle.frames.specs.declared.Checked.TheVariants.{Frame, Ends, OtherType, BelowZero}
 use Rattle.marks.specs.Marks.{listed}
 use Rattle.sent.specs.Record.{State, Outstanding, Acknowledged, Lost, is_acknowledged, is_lost, most_held, is_due, record_of, next_of, floor_of, acked_before, lost_before, acked_at, lost_at, is_outstanding, consistent}
 use Rattle.sent.specs.Calls.{unless_refused}
-use Rattle.sent.specs.Heard.{within, heard_state, newly}
+use Rattle.sent.specs.Heard.{ranges_of, within, heard_state, newly}
 use Rattle.losses.specs.Sequence.{Calls, none, ◌then◌, send_next, hear_frame, after, sending, hearing}
 
 -- ---- a frame, as the ACK reader's check reads it
 
-abbrev pub largest_in : Checked → ℕ
-largest_in (Frame largest delay at count used tail) = largest
-largest_in Ends = 0
-largest_in OtherType = 0
-largest_in BelowZero = 0
+abbrev pub largest_in : Result Checked Refusal → ℕ
+largest_in (Ok c) = c.largest
+largest_in (Err refusal) = 0
 
-abbrev pub ranges_in : List ℕ → Checked → List ℕ
-ranges_in s (Frame largest delay at count used tail) = (ranges_from count s at largest).pairs
-ranges_in s Ends = []
-ranges_in s OtherType = []
-ranges_in s BelowZero = []
+abbrev pub ranges_in : List ℕ → Result Checked Refusal → List ℕ
+ranges_in s (Ok c) = (ranges_of s c).pairs
+ranges_in s (Err refusal) = []
 
 -- ---- what the calls tell; a refused call tells nothing
 

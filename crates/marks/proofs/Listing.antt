@@ -1,16 +1,19 @@
 -- The numbers of which something holds: the first, all of them, and whether there is none, as a search passes over numbers.
 -- Assumes nothing.
 use Prim.Native.Nat.{ℕ, zero, suc, ◌+◌, ◌-◌, ◌≤◌, ◌<◌}
-use mathlib.Core.Path.{◌≡◌, refl, sym, ap, ap₂, ◌∙◌, subst}
+use mathlib.Core.Path.{◌≡◌, refl, sym, ap, ap₂, ◌∙◌}
 use mathlib.Core.Bool.{Bool, true, false}
 use mathlib.Core.List.{List, [], ◌∷◌}
 use native.Mathlib.Nat.{add-zero, add-suc, suc-add, not-suc-le-zero}
 use native.Mathlib.Omega.{arith}
+use borrow.Author.Tests.{lt-ltb, le-ltb, ltb-true, ltb-false}
+use lib.Dec.{ltb}
 use lib.ListN.{length, take, set, length-set}
 use lib.Seq.{take-nil}
+use Rattle.std.specs.Prelude.{Option, Some, None}
 use Rattle.wire.specs.Bytes.{pick, splice}
 use Rattle.wire.proofs.Bytes.{store, splice-none}
-use Rattle.marks.specs.Marks.{listed, first_in, none_in}
+use Rattle.marks.specs.Marks.{listed, first_in, found_below, none_in}
 
 module _ (p : ℕ → Bool) where
   -- ---- the first
@@ -157,41 +160,57 @@ same_test true b f g = sym (f refl)
 same_test false true f g = g refl
 same_test false false f g = refl
 
--- ---- as a search tells it: r is the first from at on and below to
+-- ---- as a search tells it: r is what is found from at on and below to
 
-module _ (p : ℕ → Bool) (at to r : ℕ) (e : r ≡ first_in p (to - at) at) (h : at < to) where
-  pub none_more : to ≤ r → listed p (to - at) at ≡ []
-  none_more l = list-none p (to - at) at (omega arith)
+pub none-below : (to n : ℕ) → to ≤ n → None ≡ found_below to n
+none-below to n h = rw (le-ltb n to h) refl
 
-  pub one_more : r < to → listed p (to - at) at ≡ r ∷ listed p (to - (r + 1)) (r + 1)
-  one_more l =
-      let f : ℕ = first_in p (to - at) at in
-      let d : at + (to - at) - suc f ≡ to - (r + 1) = omega arith in
-      let g : suc f ≡ r + 1 = omega arith in
-      list-some p (to - at) at (omega arith) ∙ rw (d, g, ← e) refl
+pub some-below : (to n r : ℕ) → n < to → r ≡ n → Some r ≡ found_below to n
+some-below to n r h e = rw (e, lt-ltb n to h) refl
 
-  pub found-least : at ≤ r
-  found-least = subst (λ (x : ℕ). at ≤ x) (sym e) (first-least p (to - at) at)
+below-none : (to n : ℕ) → found_below to n ≡ None → to ≤ n
+below-none to n = go (ltb n to) refl
+  where
+    go : (b : Bool) → ltb n to ≡ b → pick b (Some n) None ≡ None → to ≤ n
+    go true e f = let z : ◌≡◌ {A = ℕ} 0 1 = cc in absurd (omega arith)
+    go false e f = let h = ltb-false n to e in omega arith
 
-pub list-end : (p : ℕ → Bool) (at to : ℕ) → to ≤ at → listed p (to - at) at ≡ []
-unfolding listed
-list-end p at to h = let z : to - at ≡ 0 = omega arith in ap (λ (k : ℕ). listed p k at) z
+below-some : (to n r : ℕ) → found_below to n ≡ Some r → (r ≡ n) × (n < to)
+below-some to n r = go (ltb n to) refl
+  where
+    go : (b : Bool) → ltb n to ≡ b → pick b (Some n) None ≡ Some r → (r ≡ n) × (n < to)
+    go true e f = (cc, ltb-true n to e)
+    go false e f = let z : ◌≡◌ {A = ℕ} 0 1 = cc in absurd (omega arith)
+
+module _ (p : ℕ → Bool) (at to : ℕ) {o : Option ℕ} (e : o ≡ found_below to (first_in p (to - at) at)) where
+  pub none_more : o ≡ None → listed p (to - at) at ≡ []
+  none_more t =
+      let l = below-none to (first_in p (to - at) at) (sym e ∙ t) in
+      list-none p (to - at) at (omega (arith, l, first-least p (to - at) at))
+
+  module _ {r : ℕ} (t : o ≡ Some r) where
+    pub found-below : r < to
+    found-below = let f = below-some to (first_in p (to - at) at) r (sym e ∙ t) in omega (arith, f.0, f.1)
+
+    pub found-least : at ≤ r
+    found-least = let f = below-some to (first_in p (to - at) at) r (sym e ∙ t) in omega (arith, f.0, first-least p (to - at) at)
+
+    pub one_more : listed p (to - at) at ≡ r ∷ listed p (to - (r + 1)) (r + 1)
+    one_more =
+        let f : ℕ = first_in p (to - at) at in
+        let s = below-some to f r (sym e ∙ t) in
+        let l : at ≤ f = first-least p (to - at) at in
+        let d : at + (to - at) - suc f ≡ to - (r + 1) = omega (arith, s.0, s.1) in
+        let g : suc f ≡ r + 1 = omega (arith, s.0) in
+        list-some p (to - at) at (omega (arith, s.1)) ∙ rw (d, g, ← s.0) refl
 
 -- ---- as a list is written: xs with as many of the numbers l, which are still to write, as fit from i on
 
 abbrev pub fitted : List ℕ → ℕ → List ℕ → List ℕ
 fitted xs i l = splice xs i (take (length xs - i) l)
 
-pub from_start : (xs l : List ℕ) → fitted xs 0 l ≡ splice xs 0 (take (length xs) l)
-from_start xs l = let z : length xs - 0 ≡ length xs = omega arith in ap (λ (k : ℕ). splice xs 0 (take k l)) z
-
 pub none-to-write : (xs l : List ℕ) (i : ℕ) → l ≡ [] → xs ≡ fitted xs i l
 none-to-write xs l i e = sym (ap (λ (k : List ℕ). fitted xs i k) e ∙ ap (splice xs i) (take-nil (length xs - i)) ∙ splice-none xs i)
-
-pub no-room-left : (xs l : List ℕ) (i : ℕ) → length xs ≤ i → xs ≡ fitted xs i l
-no-room-left xs l i h =
-    let z : length xs - i ≡ 0 = omega arith in
-    sym (ap (λ (k : ℕ). splice xs i (take k l)) z ∙ splice-none xs i)
 
 pub wrote_one : (xs l more : List ℕ) (i a : ℕ) → i < length xs → l ≡ a ∷ more → fitted (set xs i a) (i + 1) more ≡ fitted xs i l
 wrote_one xs l more i a h e =

@@ -1,5 +1,5 @@
 -- Marks of numbers in a ring of sixteen words, and the numbers of which something holds, rising.
-use Rattle.std.specs.Prelude.{ℕ, zero, suc, ◌+◌, ◌-◌, ◌*◌, ◌/◌, ◌%◌, Bool, true, false, ◌&&◌, List, [], ◌∷◌, leb, ltb, get_or, set}
+use Rattle.std.specs.Prelude.{ℕ, zero, suc, ◌+◌, ◌-◌, ◌*◌, ◌/◌, ◌%◌, Bool, true, false, ◌&&◌, List, [], ◌∷◌, Option, Some, None, leb, ltb, get_or, set}
 use Rattle.wire.specs.Bytes.{pick}
 use Rattle.window.specs.Window.{is_set, with_bit}
 
@@ -34,6 +34,10 @@ listed p (suc k) n = pick (p n) (n ∷ listed p k (suc n)) (listed p k (suc n))
 unfoldable pub first_in : (ℕ → Bool) → ℕ → ℕ → ℕ
 first_in p zero n = n
 first_in p (suc k) n = pick (p n) n (first_in p k (suc n))
+
+-- what a search below `to` finds that ends at n
+abbrev pub found_below : ℕ → ℕ → Option ℕ
+found_below to n = pick (ltb n to) (Some n) None
 
 -- whether there is none
 unfoldable pub none_in : (ℕ → Bool) → ℕ → ℕ → Bool

@@ -7,7 +7,10 @@ use mathlib.Core.List.{List, [], ◌∷◌}
 use native.Mathlib.Omega.{arith}
 use borrow.Author.Tests.{eqb-false}
 use lib.ListN.{length}
+use Rattle.std.specs.Prelude.{Err}
 use Rattle.wire.specs.Exactly.{OneOf}
+use Rattle.wire.specs.Refusals.{refusal_number}
+use Rattle.wire.specs.declared.Refusal.TheVariants.{BrokenCount, OtherTotal, BrokenEntry}
 use Rattle.entries.specs.Profiles.{record_size}
 use Rattle.entries.specs.Entries.{group_of, behind, object_of, record_at, entry_at}
 use Rattle.entries.specs.Exactly.{Below, Obeys}
@@ -20,10 +23,8 @@ use Rattle.report.proofs.Exactly.{report-reads, sound-judged}
 use Rattle.report.proofs.Agreeing.{both-agree}
 use Rattle.newest.specs.Search.{newest_in}
 use Rattle.newest.specs.Newest.{newest_lost}
-use Rattle.newest.specs.Refusals.{newest_refusal}
 use Rattle.newest.specs.Exactly.{Stands, BadRead, Last}
 use Rattle.newest.specs.Against.{WhereTwelve, AgainstFull}
-use Rattle.newest.specs.declared.Newest.TheVariants.{Refused}
 use Rattle.newest.proofs.Outcome.{all-stand, bad-refused, good-last, twelve-or}
 use Rattle.newest.proofs.Exactly.{to_inside, to-longer, to-fault, to-few, to-remain, at-end}
 
@@ -75,22 +76,19 @@ module _ (p : Profile) (s : List ℕ) where
 
   -- ---- a refused one
 
-  refused : ((read_report p s).refusal ≡ 0 → ⊥) → ((read_report p s).refusal ≡ 12 → ⊥) → newest_lost p s ≡ Refused (read_report p s).refusal
+  refused : ((read_report p s).refusal ≡ 0 → ⊥) → ((read_report p s).refusal ≡ 12 → ⊥) → refusal_number (newest_lost p s) ≡ (read_report p s).refusal
   refused zero twelve = go (report-reads p s).others
     where
-      is : (n : ℕ) → (read_report p s).refusal ≡ n → newest_lost p s ≡ Refused n → newest_lost p s ≡ Refused (read_report p s).refusal
-      is n e q = q ∙ ap Refused (sym e)
-
-      go : OneOf (read_report p s).refusal (0 ∷ 2 ∷ 10 ∷ 11 ∷ 12 ∷ 13 ∷ 15 ∷ []) → newest_lost p s ≡ Refused (read_report p s).refusal
+      go : OneOf (read_report p s).refusal (0 ∷ 2 ∷ 10 ∷ 11 ∷ 12 ∷ 13 ∷ 15 ∷ []) → refusal_number (newest_lost p s) ≡ (read_report p s).refusal
       go (inl e) = absurd (zero e)
-      go (inr (inl e)) = is 2 e (⊎_elim (to_inside p s) (to-few p s) ((report-reads p s).two.0 e))
-      go (inr (inr (inl e))) = is 10 e (to-fault p s 10 (eqb-false 10 0 refl) ((report-reads p s).ten.0 e))
-      go (inr (inr (inr (inl e)))) = is 11 e (to-fault p s 11 (eqb-false 11 0 refl) ((report-reads p s).eleven.0 e))
+      go (inr (inl e)) = ap refusal_number (⊎_elim (to_inside p s) (to-few p s) ((report-reads p s).two.0 e)) ∙ sym e
+      go (inr (inr (inl e))) = ap refusal_number (to-fault p s BrokenCount ((report-reads p s).ten.0 e)) ∙ sym e
+      go (inr (inr (inr (inl e)))) = ap refusal_number (to-fault p s OtherTotal ((report-reads p s).eleven.0 e)) ∙ sym e
       go (inr (inr (inr (inr (inl e))))) = absurd (twelve e)
       go (inr (inr (inr (inr (inr (inl e)))))) =
           let b = (report-reads p s).thirteen.0 e in
-          is 13 e (to-remain p s (record { ns = b.ns; at = b.at; header = b.header; remain = b.remain }))
-      go (inr (inr (inr (inr (inr (inr (inl e))))))) = is 15 e (to-longer p s ((report-reads p s).fifteen.0 e))
+          ap refusal_number (to-remain p s (record { ns = b.ns; at = b.at; header = b.header; remain = b.remain })) ∙ sym e
+      go (inr (inr (inr (inr (inr (inr (inl e))))))) = ap refusal_number (to-longer p s ((report-reads p s).fifteen.0 e)) ∙ sym e
       go (inr (inr (inr (inr (inr (inr (inr e))))))) = elim e [ ]
 
   where-twelve : BadEntry p s → WhereTwelve p s
@@ -104,9 +102,9 @@ module _ (p : Profile) (s : List ℕ) where
     there = λ h. omega (arith, b.there);
   }
     where
-      noticed : b.at + record_size p * count_of b.ns ≡ length s → newest_lost p s ≡ Refused 12 → BadRead p (part_of p s b.ns b.at) (count_of b.ns)
+      noticed : b.at + record_size p * count_of b.ns ≡ length s → newest_lost p s ≡ Err BrokenEntry → BadRead p (part_of p s b.ns b.at) (count_of b.ns)
       noticed h q =
-          let t : newest_refusal (newest_in p (part_of p s b.ns b.at) (count_of b.ns)) ≡ 12 = ap newest_refusal (sym (at-end p s b.ns b.at b.header h) ∙ q) in
+          let t : refusal_number (newest_in p (part_of p s b.ns b.at) (count_of b.ns)) ≡ 12 = ap refusal_number (sym (at-end p s b.ns b.at b.header h) ∙ q) in
           ⊎_elim (λ y. y.1) (λ y. absurd (eqb-false 12 0 refl (sym t ∙ y.0))) (twelve-or p (part_of p s b.ns b.at) (count_of b.ns))
 
 pub against-full : AgainstFull

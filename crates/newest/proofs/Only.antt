@@ -4,11 +4,6 @@ use mathlib.Core.Path.{sym, ◌∙◌}
 use Rattle.wire.proofs.Only.{OneAnswer}
 use Rattle.newest.proofs.whole.newest_lost.Reads as newest-lost
 use Rattle.newest.proofs.whole.newest_lost.Kinds as newest-lost-kinds
-use Rattle.newest.proofs.Newest.refusal.Reads as newest-refusal
-use Rattle.newest.proofs.Newest.refusal.Kinds as newest-refusal-kinds
 
 pub newest-lost-one : OneAnswer 1 newest-lost-kinds.ps newest-lost-kinds.r newest-lost.Post
 newest-lost-one κs given x y s t p q = p ∙ sym q
-
-pub newest-refusal-one : OneAnswer 0 newest-refusal-kinds.ps newest-refusal-kinds.r newest-refusal.Post
-newest-refusal-one κs given x y s t p q = p ∙ sym q

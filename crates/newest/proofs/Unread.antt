@@ -7,37 +7,36 @@ use native.Mathlib.Nat.{zero-add}
 use native.Mathlib.Omega.{arith}
 use lib.ListN.{length, take, drop, take-append-drop}
 use lib.Seq.{drop-drop, take-nil}
+use Rattle.std.specs.Prelude.{Option, Result, Ok, Err}
 use Rattle.wire.specs.Bytes.{pick, Octets}
 use Rattle.wire.specs.Numbers.{limit, encode_all}
 use Rattle.wire.specs.Standing.{StandShortest}
+use Rattle.wire.specs.declared.Refusal.{Refusal}
+use Rattle.wire.specs.declared.Refusal.TheVariants.{BrokenEntry}
 use Rattle.wire.proofs.Lengths.{split}
 use Rattle.wire.proofs.Standing.{short-stands, encoded-short, stand-small, short-long, short-bytes}
 use Rattle.entries.specs.Profiles.{record_size}
 use Rattle.entries.specs.Entries.{entry_of, entry_at, at_or_above}
 use Rattle.entries.specs.declared.Profile.{Profile}
 use Rattle.entries.specs.declared.Entry.{Entry}
-use Rattle.entries.specs.declared.Entry.TheVariants.{Record, Ends, Broken, OtherProfile}
 use Rattle.entries.proofs.Sizes.{further}
 use Rattle.report.specs.Header.{count_of}
 use Rattle.report.specs.Reader.{Whole, part_of}
 use Rattle.report.specs.Exactly.{Headed}
 use Rattle.report.proofs.Following.{headed-whole}
-use Rattle.newest.specs.Search.{is_lost, judged, searched}
+use Rattle.newest.specs.Search.{found, is_lost, judged, searched}
 use Rattle.newest.specs.Newest.{after_numbers}
 use Rattle.newest.specs.Exactly.{Lost}
 use Rattle.newest.specs.Against.{Unread}
-use Rattle.newest.specs.declared.Newest.{Newest}
-use Rattle.newest.specs.declared.Newest.TheVariants.{Found, Refused}
+use Rattle.newest.specs.declared.Lost.{Lost as LostObject}
 use Rattle.newest.proofs.Exactly.{by}
 
 -- ---- the search
 
-judged-same : (top next : ℕ) (e : Entry) (f g : ℕ → ℕ → Newest) → ((a b : ℕ) → f a b ≡ g a b) → judged top next e f ≡ judged top next e g
-judged-same top next (Record group object status age) f g h =
-    ap (λ (r : Newest). pick (at_or_above group (suc object) top next) (pick (is_lost status) (Found group object) r) (Refused 12)) (h group object)
-judged-same top next Ends f g h = refl
-judged-same top next Broken f g h = refl
-judged-same top next OtherProfile f g h = refl
+judged-same : (top next : ℕ) (e : Result Entry Refusal) (f g : ℕ → ℕ → Result (Option LostObject) Refusal) → ((a b : ℕ) → f a b ≡ g a b) → judged top next e f ≡ judged top next e g
+judged-same top next (Ok e) f g h =
+    ap (λ (r : Result (Option LostObject) Refusal). pick (at_or_above e.group (suc e.object) top next) (pick (is_lost e.status) (found e.group e.object) r) (Err BrokenEntry)) (h e.group e.object)
+judged-same top next (Err refusal) f g h = refl
 
 module _ (p : Profile) (s t : List ℕ) (i : ℕ) (same : drop (i * record_size p) t ≡ drop (i * record_size p) s) (x : Lost p s i) where
   -- record j is one of those from record i on
@@ -54,7 +53,7 @@ module _ (p : Profile) (s t : List ℕ) (i : ℕ) (same : drop (i * record_size 
   unfolding searched
   search-same zero top next l = absurd (omega arith)
   search-same (suc k) top next l =
-      ap (λ (e : Entry). judged top next e (searched p t k)) (entry-same k (omega arith))
+      ap (λ (e : Result Entry Refusal). judged top next e (searched p t k)) (entry-same k (omega arith))
       ∙ split (suc i) k
       (λ h. judged-same top next (entry_at p s k) (searched p t k) (searched p s k) (λ a b. search-same k a b h))
       (λ h. let e : k ≡ i = omega arith in

@@ -1,6 +1,8 @@
 -- The newest lost object beside the full reading, and that nothing before it is read.
-use Rattle.std.specs.Prelude.{ℕ, ◌+◌, ◌*◌, ◌<◌, ◌≡◌, ◌↔◌, List, length, take, drop}
+use Rattle.std.specs.Prelude.{ℕ, ◌+◌, ◌*◌, ◌<◌, ◌≡◌, ◌↔◌, Err, List, length, take, drop}
 use Rattle.wire.specs.Bytes.{Octets}
+use Rattle.wire.specs.Refusals.{refusal_number}
+use Rattle.wire.specs.declared.Refusal.TheVariants.{BrokenEntry, BytesRemain}
 use Rattle.entries.specs.Profiles.{record_size}
 use Rattle.entries.specs.declared.Profile.{Profile}
 use Rattle.report.specs.Header.{count_of}
@@ -8,15 +10,14 @@ use Rattle.report.specs.Reader.{part_of, read_report, entries_of}
 use Rattle.report.specs.Exactly.{Headed}
 use Rattle.newest.specs.Newest.{newest_lost}
 use Rattle.newest.specs.Exactly.{Lost, BadRead, Last}
-use Rattle.newest.specs.declared.Newest.TheVariants.{Refused}
 
 -- "Where it refuses with 12, 13 comes first if bytes remain; then a bad record among those read .. gives 12"; "Others are not noticed"
 pub record WhereTwelve (p : Profile) (s : List ℕ) : Type 0 where
   pub ns : List ℕ
   pub at : ℕ
   pub header : Headed p s ns at
-  pub remain : at + record_size p * count_of ns < length s → newest_lost p s ≡ Refused 13
-  pub bad : at + record_size p * count_of ns ≡ length s → newest_lost p s ≡ Refused 12 ↔ BadRead p (part_of p s ns at) (count_of ns)
+  pub remain : at + record_size p * count_of ns < length s → newest_lost p s ≡ Err BytesRemain
+  pub bad : at + record_size p * count_of ns ≡ length s → newest_lost p s ≡ Err BrokenEntry ↔ BadRead p (part_of p s ns at) (count_of ns)
   pub unnoticed : at + record_size p * count_of ns ≡ length s → (BadRead p (part_of p s ns at) (count_of ns) → ⊥) → Last p (part_of p s ns at) (count_of ns) (newest_lost p s)
   pub there : (length s < at + record_size p * count_of ns) → ⊥
 
@@ -24,7 +25,7 @@ pub record Against (p : Profile) (s : List ℕ) : Type 0 where
   -- "For every report that the full reader accepts, the answer equals the last such entry of the full reading"
   pub accepted : (read_report p s).refusal ≡ 0 → Last p (entries_of p s) (read_report p s).header.entries (newest_lost p s)
   -- "Where the full reader refuses with a number other than 12, the answer is that number."
-  pub refused : ((read_report p s).refusal ≡ 0 → ⊥) → ((read_report p s).refusal ≡ 12 → ⊥) → newest_lost p s ≡ Refused (read_report p s).refusal
+  pub refused : ((read_report p s).refusal ≡ 0 → ⊥) → ((read_report p s).refusal ≡ 12 → ⊥) → refusal_number (newest_lost p s) ≡ (read_report p s).refusal
   pub twelve : (read_report p s).refusal ≡ 12 → WhereTwelve p s
 
 abbrev pub AgainstFull : Type 0

@@ -1,20 +1,20 @@
 -- The rows of the refusal table for the newest lost object, and what an answer that is none of them is: each number exactly when its row says, and no other.
-use Rattle.std.specs.Prelude.{ℕ, suc, ◌+◌, ◌*◌, ◌<◌, ◌≡◌, ◌↔◌, ◌⊎◌, List, [], ◌∷◌, length}
+use Rattle.std.specs.Prelude.{ℕ, suc, ◌+◌, ◌*◌, ◌<◌, ◌≡◌, ◌↔◌, ◌⊎◌, Option, Result, List, [], ◌∷◌, length}
 use Rattle.wire.specs.Exactly.{OneOf}
+use Rattle.wire.specs.Refusals.{refusal_number}
+use Rattle.wire.specs.declared.Refusal.{Refusal}
 use Rattle.entries.specs.Profiles.{record_size}
-use Rattle.entries.specs.Entries.{group_of, behind, object_of, record_at, entry_at}
+use Rattle.entries.specs.Entries.{group_of, behind, object_of, record_at, entry, entry_at}
 use Rattle.entries.specs.Exactly.{Below}
 use Rattle.entries.specs.declared.Profile.{Profile}
 use Rattle.entries.specs.declared.Status.{Status}
 use Rattle.entries.specs.declared.Status.TheVariants.{NotReceived}
-use Rattle.entries.specs.declared.Entry.TheVariants.{Record}
 use Rattle.report.specs.Header.{count_of}
 use Rattle.report.specs.Reader.{part_of}
 use Rattle.report.specs.Exactly.{By, Headed, EndsInside, Longer, Faulty, TooFew}
 use Rattle.newest.specs.Newest.{newest_lost, newest_by}
-use Rattle.newest.specs.Refusals.{newest_refusal}
-use Rattle.newest.specs.declared.Newest.{Newest}
-use Rattle.newest.specs.declared.Newest.TheVariants.{Found, Nothing}
+use Rattle.newest.specs.Search.{found, nothing}
+use Rattle.newest.specs.declared.Lost.{Lost as LostObject}
 
 -- ---- the records, n of them
 
@@ -23,7 +23,7 @@ pub record Lost (p : Profile) (s : List ℕ) (i : ℕ) : Type 0 where
   pub group : ℕ
   pub object : ℕ
   pub age : ℕ
-  pub entry : entry_at p s i ≡ Record group object NotReceived age
+  pub entry : entry_at p s i ≡ entry group object NotReceived age
 
 -- the search comes to record i: none after it is marked so
 abbrev pub Read : Profile → List ℕ → ℕ → ℕ → Type 0
@@ -35,7 +35,7 @@ pub record Stands (p : Profile) (s : List ℕ) (n i : ℕ) : Type 0 where
   pub object : ℕ
   pub status : Status
   pub age : ℕ
-  pub entry : entry_at p s i ≡ Record group object status age
+  pub entry : entry_at p s i ≡ entry group object status age
   pub below : suc i < n → Below group object (group_of p (record_at p s (suc i))) (object_of (behind p (record_at p s (suc i))))
 
 -- 12: "a bad record among those read, the found one and the order among them included"
@@ -46,9 +46,9 @@ pub record BadRead (p : Profile) (s : List ℕ) (n : ℕ) : Type 0 where
   pub bad : Stands p s n index → ⊥
 
 -- the last record that is marked not received, or that there is none
-pub data Last (p : Profile) (s : List ℕ) (n : ℕ) : Newest → Type 0 where
-  last : {i : ℕ} → (x : Lost p s i) → i < n → Read p s n i → Last p s n (Found x.group x.object)
-  none : ((j : ℕ) → j < n → Lost p s j → ⊥) → Last p s n Nothing
+pub data Last (p : Profile) (s : List ℕ) (n : ℕ) : Result (Option LostObject) Refusal → Type 0 where
+  last : {i : ℕ} → (x : Lost p s i) → i < n → Read p s n i → Last p s n (found x.group x.object)
+  none : ((j : ℕ) → j < n → Lost p s j → ⊥) → Last p s n nothing
 
 -- ---- the rows
 
@@ -78,7 +78,7 @@ pub record NewestRows (p : Profile) (s : List ℕ) (refusal : ℕ) : Type 0 wher
   pub others : OneOf refusal (0 ∷ 2 ∷ 10 ∷ 11 ∷ 12 ∷ 13 ∷ 15 ∷ [])
 
 abbrev pub NewestReads : Type 0
-NewestReads = (p : Profile) (s : List ℕ) → NewestRows p s (newest_refusal (newest_lost p s))
+NewestReads = (p : Profile) (s : List ℕ) → NewestRows p s (refusal_number (newest_lost p s))
 
 abbrev pub NewestReadsBy : Type 0
-NewestReadsBy = (profile : ℕ) (s : List ℕ) → By profile (λ p. NewestRows p s) (0 ∷ 2 ∷ 10 ∷ 11 ∷ 12 ∷ 13 ∷ 15 ∷ []) (newest_refusal (newest_by profile s))
+NewestReadsBy = (profile : ℕ) (s : List ℕ) → By profile (λ p. NewestRows p s) (0 ∷ 2 ∷ 10 ∷ 11 ∷ 12 ∷ 13 ∷ 15 ∷ []) (refusal_number (newest_by profile s))

@@ -4,34 +4,14 @@
 
 #![tactic(auto)]
 
-ghost use Rattle.std.specs.Prelude.{◌≡◌};
-ghost use Rattle.newest.specs.Refusals.{newest_refusal};
-
 mod search;
 mod whole;
 
 pub use whole::newest_lost;
 
-// What the search finds: the group, 0 in profile 1, and the number of the last object that was not received, that there is none, or the refusal.
+// The last object that was not received: its group, 0 in profile 1, and its number.
 #[derive(Clone, Copy)]
-pub enum Newest {
-    Found { group: u64, object: u64 },
-    Nothing,
-    Refused(u64),
-}
-
-impl Newest {
-    // The paper's number for the answer, 0 for accepted.
-    pub fn refusal(self) -> u64
-        ensures { result ≡ newest_refusal self }
-    {
-        match self {
-            Newest::Found {
-                group: _,
-                object: _,
-            } => 0,
-            Newest::Nothing => 0,
-            Newest::Refused(n) => n,
-        }
-    }
+pub struct Lost {
+    pub group: u64,
+    pub object: u64,
 }

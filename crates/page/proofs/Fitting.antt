@@ -8,7 +8,7 @@ use native.Mathlib.Omega.{arith}
 use lib.Dec.{eqb}
 use lib.ListN.{length, get_or, length-append}
 use Rattle.wire.specs.Bytes.{pick, splice}
-use Rattle.wire.specs.declared.Put.TheVariants.{Done}
+use Rattle.std.specs.Prelude.{Ok}
 use Rattle.wire.proofs.Writing.{placed-yes}
 use Rattle.decimal.specs.Decimal.{decimal}
 use Rattle.decimal.proofs.Decimal.{length-decimal, word-places}
@@ -79,10 +79,10 @@ page-fits st left held = (printed-short st left held).short
 
 -- so in that room it is always written
 pub page-placed : (st : Standing) (left : ℕ) (xs : List ℕ) → Held st.totals → longest_page ≤ length xs
-    → (page_placed st left xs ≡ Done (length (printed st left))) × (page_written st left xs ≡ splice xs 0 (printed st left)) × (length (printed st left) ≤ length xs)
+    → (page_placed st left xs ≡ Ok (length (printed st left))) × (page_written st left xs ≡ splice xs 0 (printed st left)) × (length (printed st left) ≤ length xs)
 page-placed st left xs held h =
     let us = printed st left in
     let l : length us ≤ length xs = omega (arith, page-fits st left held) in
     let y = placed-yes xs 0 us (omega arith) in
     let n : 0 + length us ≡ length us = omega arith in
-    (sym y.0 ∙ ap Done n, sym y.1, l)
+    (sym y.0 ∙ ap Ok n, sym y.1, l)

@@ -10,10 +10,11 @@ use borrow.Author.Tests.{eq-eqb, ne_eqb, leb-true}
 use lib.Dec.{leb}
 use lib.ListN.{length, get_or, take, drop, length-append, take-append-drop}
 use lib.Seq.{take_at}
+use Rattle.std.specs.Prelude.{Result, Ok, Err}
 use Rattle.wire.specs.Bytes.{pick, splice}
 use Rattle.wire.specs.Fields.{placed}
-use Rattle.wire.specs.declared.Put.{Put}
-use Rattle.wire.specs.declared.Put.TheVariants.{Done, NoRoom}
+use Rattle.wire.specs.declared.Refusal.{Refusal}
+use Rattle.wire.specs.declared.Refusal.TheVariants.{NoRoom}
 use Rattle.wire.proofs.Bytes.{splice-splice}
 use Rattle.wire.proofs.Writing.{placed-no, placed-yes}
 use Rattle.totals.specs.declared.Totals.{Totals}
@@ -112,24 +113,24 @@ module _ (st : Standing) (left : ℕ) where
   printed-whole e f = rw (eq-eqb (st.skip + left) 0 (omega arith))
 
   module _ (xs : List ℕ) where
-    pub page-no : length xs < length (printed st left) → (NoRoom ≡ page_placed st left xs) × (xs ≡ page_written st left xs)
+    pub page-no : length xs < length (printed st left) → (Err NoRoom ≡ page_placed st left xs) × (xs ≡ page_written st left xs)
     page-no h = placed-no xs 0 (printed st left) (omega arith)
 
     -- us is the page, and ys the buffer with it
     pub page-yes : (us : List ℕ) {ys : List ℕ} {next : ℕ} → us ≡ printed st left → length us ≤ length xs
-        → next ≡ 0 + length us → ys ≡ splice xs 0 us → (Done next ≡ page_placed st left xs) × (ys ≡ page_written st left xs)
+        → next ≡ 0 + length us → ys ≡ splice xs 0 us → (Ok next ≡ page_placed st left xs) × (ys ≡ page_written st left xs)
     page-yes us e h n g =
         let y = placed-yes xs 0 us (omega arith) in
         (rw (n, sym e) y.0, rw (g, sym e) y.1)
 
     -- the page lies within the buffer
-    pub page-within : {r : Put} {n : ℕ} → r ≡ page_placed st left xs → r ≡ Done n → n ≤ length xs
+    pub page-within : {r : Result ℕ Refusal} {n : ℕ} → r ≡ page_placed st left xs → r ≡ Ok n → n ≤ length xs
     unfolding placed
     page-within {r} {n} e t = go (leb (0 + length us) (length xs)) refl (sym e ∙ t)
       where
         us : List ℕ
         us = printed st left
 
-        go : (b : Bool) → leb (0 + length us) (length xs) ≡ b → pick b (Done (0 + length us)) NoRoom ≡ Done n → n ≤ length xs
+        go : (b : Bool) → leb (0 + length us) (length xs) ≡ b → pick b (Ok (0 + length us)) (Err NoRoom) ≡ Ok n → n ≤ length xs
         go true l q = let f : 0 + length us ≡ n = cc in omega (arith, leb-true (0 + length us) (length xs) l)
         go false l q = let z : ◌≡◌ {A = ℕ} 0 1 = cc in absurd (omega arith)

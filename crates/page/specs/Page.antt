@@ -1,13 +1,13 @@
 -- The page: "It prints reports accepted, reports refused for each number that occurs, rising, the four summary totals and the
 -- entry count by status".
-use Rattle.std.specs.Prelude.{ℕ, zero, suc, ◌+◌, ◌*◌, ◌≤◌, List, [], ◌∷◌, ◌++◌, Bool, true, eqb, leb, ltb, length, get_or}
+use Rattle.std.specs.Prelude.{ℕ, zero, suc, ◌+◌, ◌*◌, ◌≤◌, List, [], ◌∷◌, ◌++◌, Bool, true, Result, eqb, leb, ltb, length, get_or}
 use Rattle.wire.specs.Bytes.{pick}
 use Rattle.wire.specs.Fields.{placed, written}
-use Rattle.wire.specs.declared.Put.{Put}
+use Rattle.wire.specs.declared.Refusal.{Refusal}
 use Rattle.decimal.specs.Decimal.{decimal}
 use Rattle.totals.specs.declared.Totals.{Totals}
 use Rattle.totals.specs.declared.Standing.{Standing}
-use Rattle.totals.specs.Totals.{places, too_long, at_total, at_received, at_late, at_lost, totals_of}
+use Rattle.totals.specs.Totals.{places, at_total, at_received, at_late, at_lost, totals_of}
 use Rattle.totals.specs.Adding.{Held}
 use Rattle.totals.specs.Files.{Cut, Reports, EndsEarly, cut}
 
@@ -122,7 +122,7 @@ abbrev pub longest_page : ℕ
 longest_page = longest_line * places
 
 -- 9: "the smallest permitted output does not fit the room"; the page is one output, and goes by its own length
-abbrev pub page_placed : Standing → ℕ → List ℕ → Put
+abbrev pub page_placed : Standing → ℕ → List ℕ → Result ℕ Refusal
 page_placed st left xs = placed xs 0 (printed st left)
 
 abbrev pub page_written : Standing → ℕ → List ℕ → List ℕ

@@ -1,5 +1,5 @@
 -- Examples of the week's totals, on the definitions: a file that is empty, one with the report of P9, one that is cut, and sums at the edge.
-use Rattle.std.specs.Prelude.{ℕ, ◌+◌, ◌≡◌, List, [], ◌∷◌, ◌++◌, length}
+use Rattle.std.specs.Prelude.{ℕ, ◌+◌, ◌≡◌, List, [], ◌∷◌, ◌++◌}
 use Rattle.totals.specs.Totals.{most, kept, mark}
 use Rattle.page.specs.Page.{accepted_text, refused_text, total_text, received_text, late_text, lost_text, entries_text, not_text, partial_text, line_end, early, page}
 

@@ -11,7 +11,7 @@ ghost use Rattle.totals.specs.Totals.{places};
 ghost use Rattle.page.specs.Page.{name_of, line, is_shown, lines, early, printed, longest_line, longest_page, page_placed, page_written};
 
 use totals::{AT_LATE, AT_LOST, AT_RECEIVED, AT_TOTAL, PLACES, Standing, Totals};
-use wire::Put;
+use wire::Refusal;
 
 // How many bytes a line takes at most: `entries not received `, twenty digits, and ` full` with the line's end.
 const LINE: usize = 47;
@@ -24,12 +24,9 @@ fn put_text(buf: &mut [u8], at: usize, text: &[u8]) -> usize
     requires { at + length text.now ≤ length buf.old }
     ensures { (result ≡ at + length text.now) × (buf.new ≡ splice buf.old at text.now) }
 {
-    let mut i: usize = 0;
-    while i < text.len() {
-        buf[at + i] = text[i];
-        i += 1;
-    }
-    at + i
+    let end = at + text.len();
+    buf[at..end].copy_from_slice(text);
+    end
 }
 
 // Writes n in decimal at at; answers the place after it.
@@ -42,7 +39,7 @@ fn put_number(buf: &mut [u8], at: usize, n: u64) -> usize
     end
 }
 
-// Writes what the place stands for, and a blank.
+// Writes what the place stands for, and a blank. The places are numbers, as the C struct totals::Totals has its sums by place.
 fn put_name(buf: &mut [u8], at: usize, place: usize) -> usize
     requires { at + longest_line ≤ length buf.old }
     ensures { (result ≡ at + length (name_of place)) × (buf.new ≡ splice buf.old at (name_of place)) × (place < places → result ≤ at + 21) }
@@ -100,13 +97,11 @@ fn put_lines(buf: &mut [u8], totals: Totals) -> usize
     let sums = totals.sums;
     let full = totals.full;
     let mut at: usize = 0;
-    let mut i: usize = 0;
-    while i < PLACES {
-        let sum = sums[i];
-        if is_shown(i, sum) {
-            at = put_line(buf, at, i, sum, full[i]);
+    for place in 0..PLACES {
+        let sum = sums[place];
+        if is_shown(place, sum) {
+            at = put_line(buf, at, place, sum, full[place]);
         }
-        i += 1;
     }
     at
 }
@@ -137,14 +132,13 @@ fn lay_out(buf: &mut [u8], standing: Standing, left: usize) -> usize
 
 // Writes the page at the start of buf, where there is room for it. It is laid out elsewhere first: its length is known before a byte is stored.
 // left is how many bytes of the file are left; where some are, or some are still to be skipped, it ended early.
-pub fn put_page(buf: &mut [u8], standing: Standing, left: usize) -> Put
+pub fn put_page(buf: &mut [u8], standing: Standing, left: usize) -> Result<usize, Refusal>
     ensures { (result ≡ page_placed standing left buf.old) × (buf.new ≡ page_written standing left buf.old) }
 {
     let mut page = [0u8; LONGEST_PAGE];
     let length = lay_out(&mut page, standing, left);
     if buf.len() < length {
-        return Put::NoRoom;
+        return Err(Refusal::NoRoom);
     }
-    let next = put_text(buf, 0, &page[..length]);
-    Put::Done { next }
+    Ok(put_text(buf, 0, &page[..length]))
 }

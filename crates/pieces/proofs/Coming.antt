@@ -6,20 +6,21 @@ use mathlib.Core.Logic.{◌⊎◌, inl, inr, ⊎_elim}
 use mathlib.Core.Bool.{Bool, true, false}
 use mathlib.Core.List.{List, [], ◌∷◌, ◌++◌}
 use native.Mathlib.Omega.{arith}
-use borrow.Author.Tests.{ne_eqb}
-use lib.Dec.{eqb, leb, ltb}
+use lib.Dec.{leb, ltb}
 use lib.ListN.{length}
+use Rattle.std.specs.Prelude.{Result, Ok, Err}
 use Rattle.wire.specs.Bytes.{pick}
-use Rattle.wire.specs.Fields.{formed}
+use Rattle.wire.specs.Fields.{found, formed}
 use Rattle.wire.specs.Numbers.{read_number}
 use Rattle.wire.specs.declared.Number.{Number}
-use Rattle.wire.specs.declared.Number.TheVariants.{Value, Ends}
+use Rattle.wire.specs.Refusals.{number_of, refusal_number}
+use Rattle.wire.specs.declared.Refusal.{Refusal}
 use Rattle.entries.specs.Profiles.{record_size}
 use Rattle.entries.specs.Entries.{entry_of, records_good}
 use Rattle.entries.specs.declared.Profile.{Profile}
-use Rattle.report.specs.Header.{judge_field, wanted_of, count_of}
+use Rattle.report.specs.Header.{heeding, judge_field, wanted_of, count_of}
 use Rattle.uncut.specs.State.{State, Numbers, Records, Counting, Refused, Accepted}
-use Rattle.uncut.specs.Step.{group_in, above_in, after_bad, with_number, field_grown, record_judged, record_grown, step, after}
+use Rattle.uncut.specs.Step.{group_in, above_in, after_bad, refused, with_number, field_grown, record_judged, record_grown, step, after}
 use Rattle.pieces.specs.Exactly.{Faulty, TooMany}
 use Rattle.uncut.proofs.Cuts.{after-append}
 
@@ -51,15 +52,15 @@ module _ (p : Profile) where
       more x true e = no-refusal (Records x (count_of x) 0 0 []) n refl e
       more x false e = no-refusal (Numbers x []) n refl e
 
-      judged : (v next : ℕ) (c : Bool) → read_number (held ++ (b ∷ [])) 0 ≡ Value v next c → (d : Bool) → pick d (with_number p (ns ++ (v ∷ []))) (Refused (judge_field p ns v c)) ≡ Refused n → Faulty p (Numbers ns held) (b ∷ s) n
-      judged v next c r true e = absurd (more (ns ++ (v ∷ [])) (leb (wanted_of p (ns ++ (v ∷ []))) (length (ns ++ (v ∷ [])))) e)
-      judged v next c r false e =
-          record { front = []; b = b; rest = s; ns = ns; held = held; v = v; next = next; shortest = c; cut = refl; before = refl; whole = r; brings = same_number (judge_field p ns v c) n e }
+      judged : (v next : ℕ) (c : Bool) → read_number (held ++ (b ∷ [])) 0 ≡ found v next c → (x : Result Unit Refusal) → judge_field p ns v c ≡ x → heeding x refused (with_number p (ns ++ (v ∷ []))) ≡ Refused n → Faulty p (Numbers ns held) (b ∷ s) n
+      judged v next c r (Ok u) j e = absurd (more (ns ++ (v ∷ [])) (leb (wanted_of p (ns ++ (v ∷ []))) (length (ns ++ (v ∷ [])))) e)
+      judged v next c r (Err refusal) j e =
+          record { front = []; b = b; rest = s; ns = ns; held = held; v = v; next = next; shortest = c; cut = refl; before = refl; whole = r; brings = ap refusal_number j ∙ same_number (number_of refusal) n e }
 
-      go : (q : Number) → read_number (held ++ (b ∷ [])) 0 ≡ q
-          → formed q (Numbers ns (held ++ (b ∷ []))) (λ v next c. pick (eqb (judge_field p ns v c) 0) (with_number p (ns ++ (v ∷ []))) (Refused (judge_field p ns v c))) ≡ Refused n → Faulty p (Numbers ns held) (b ∷ s) n
-      go (Value v next c) r e = judged v next c r (eqb (judge_field p ns v c) 0) e
-      go Ends r e = no-refusal (Numbers ns (held ++ (b ∷ []))) n refl e
+      go : (q : Result Number Refusal) → read_number (held ++ (b ∷ [])) 0 ≡ q
+          → formed q (Numbers ns (held ++ (b ∷ []))) (λ v next c. heeding (judge_field p ns v c) refused (with_number p (ns ++ (v ∷ [])))) ≡ Refused n → Faulty p (Numbers ns held) (b ∷ s) n
+      go (Ok k) r e = judged k.value k.next k.shortest r (judge_field p ns k.value k.shortest) refl e
+      go (Err refusal) r e = no-refusal (Numbers ns (held ++ (b ∷ []))) n refl e
 
   no_record : (ns : List ℕ) (k last above : ℕ) (held : List ℕ) (n : ℕ) → record_grown p ns k last above held ≡ Refused n → ⊥
   unfolding record_grown record_judged number_at
@@ -104,11 +105,15 @@ module _ (p : Profile) where
   pub stood : (st : State) (s : List ℕ) (n : ℕ) → st ≡ Refused n → after p st s ≡ Refused n
   stood st s n e = ap (λ (x : State). after p x s) e ∙ stays n s
 
+  refuses : (x : Result Unit Refusal) (st : State) (n : ℕ) → (n ≡ 0 → ⊥) → refusal_number x ≡ n → heeding x refused st ≡ Refused n
+  refuses (Ok u) st n z e = absurd (z (sym e))
+  refuses (Err refusal) st n z e = ap Refused e
+
   pub faulty : (st : State) (s : List ℕ) (n : ℕ) → (n ≡ 0 → ⊥) → Faulty p st s n → after p st s ≡ Refused n
   unfolding after step field_grown
   faulty st s n z f =
-      let j : judge_field p f.ns f.v f.shortest ≡ 0 → ⊥ = λ y. z (sym f.brings ∙ y) in
-      let a : step p (Numbers f.ns f.held) f.b ≡ Refused n = rw (f.whole, ne_eqb (judge_field p f.ns f.v f.shortest) 0 j, f.brings) refl in
+      let j : heeding (judge_field p f.ns f.v f.shortest) refused (with_number p (f.ns ++ (f.v ∷ []))) ≡ Refused n = refuses (judge_field p f.ns f.v f.shortest) (with_number p (f.ns ++ (f.v ∷ []))) n z f.brings in
+      let a : step p (Numbers f.ns f.held) f.b ≡ Refused n = rw (f.whole, j) refl in
       ap (after p st) f.cut ∙ after-append p st f.front (f.b ∷ f.rest) ∙ ap (λ (x : State). after p x (f.b ∷ f.rest)) f.before ∙ ap (λ (x : State). after p x f.rest) a ∙ stays n f.rest
 
   pub too_many : (st : State) (s : List ℕ) → TooMany p st s → after p st s ≡ Refused 13

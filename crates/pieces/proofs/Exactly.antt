@@ -10,6 +10,7 @@ use borrow.Author.Tests.{eqb-true, eqb-false, le-leb, lt-leb}
 use lib.Dec.{eqb}
 use lib.ListN.{length}
 use Rattle.wire.specs.Bytes.{pick}
+use Rattle.wire.specs.Refusals.{refusal_number}
 use Rattle.wire.specs.Exactly.{OneOf}
 use Rattle.wire.proofs.Lengths.{split}
 use Rattle.entries.specs.Profiles.{record_size, Other}
@@ -57,7 +58,7 @@ standing-one p (Refused k) h = inr (fit-fact p (Refused k) h)
 standing-one p (Accepted ns) h = inl refl
 
 -- what a field can bring
-judge-one : (p : Profile) (ns : List ℕ) (v : ℕ) (c : Bool) → OneOf (judge_field p ns v c) (0 ∷ 10 ∷ 11 ∷ 15 ∷ [])
+judge-one : (p : Profile) (ns : List ℕ) (v : ℕ) (c : Bool) → OneOf (refusal_number (judge_field p ns v c)) (0 ∷ 10 ∷ 11 ∷ 15 ∷ [])
 judge-one p ns v false = inr (inr (inr (inl refl)))
 judge-one p ns v true = ⊎_elim (λ e. inl e) (⊎_elim (λ e. inr (inl e)) (⊎_elim (λ e. inr (inr (inl e))) (λ e. absurd e))) (place-judged p ns v).others
 
@@ -172,7 +173,7 @@ module _ (w part : List ℕ) (room : ℕ) where
       go (Counting ns zero) e = inr (inr (inr (inr (inl refl))))
       go (Counting ns (suc k)) e = inl refl
       go (Refused k) e =
-          ⊎_elim (λ q. here k q) (⊎_elim (λ q. from_field k (judge_field (profile_in w) q.ns q.v q.shortest) q.brings (judge-one (profile_in w) q.ns q.v q.shortest)) (λ q. inr (inr (inr (inr (inr (inl q.1))))))) (came (profile_in w) (state_of w) (taken_of w part room) k e)
+          ⊎_elim (λ q. here k q) (⊎_elim (λ q. from_field k (refusal_number (judge_field (profile_in w) q.ns q.v q.shortest)) q.brings (judge-one (profile_in w) q.ns q.v q.shortest)) (λ q. inr (inr (inr (inr (inr (inl q.1))))))) (came (profile_in w) (state_of w) (taken_of w part room) k e)
       go (Accepted ns) e = inl refl
 
   -- a refusal that stands is what the bytes come to: they change nothing

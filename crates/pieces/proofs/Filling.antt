@@ -9,12 +9,13 @@ use borrow.Author.Tests.{lt-ltb, le-ltb}
 use lib.Dec.{ltb}
 use lib.ListN.{length, length-append}
 use lib.Seq.{append_snoc, take_all}
+use Rattle.std.specs.Prelude.{Result, Ok, Err}
 use Rattle.wire.specs.Bytes.{pick}
+use Rattle.wire.specs.declared.Refusal.{Refusal}
 use Rattle.entries.specs.Profiles.{record_size}
 use Rattle.entries.specs.Entries.{entry_of, at_or_above, follows, records_good}
 use Rattle.entries.specs.declared.Profile.{Profile}
 use Rattle.entries.specs.declared.Entry.{Entry}
-use Rattle.entries.specs.declared.Entry.TheVariants.{Record, Ends, Broken, OtherProfile}
 use Rattle.uncut.specs.State.{State, Records}
 use Rattle.uncut.specs.Step.{group_in, above_in, after_bad, record_judged, record_grown, record_given, step, given, after, delivered}
 use Rattle.uncut.specs.Cutting.{taking}
@@ -26,28 +27,24 @@ abbrev key_good : Key → Bool
 key_good (Good group above) = true
 key_good Bad = false
 
-key-rule : (e : Entry) (last above : ℕ) → follows last above e (λ g o. true) ≡ key_good (key_in last above e)
-key-rule (Record g o status age) last above = go (at_or_above last above g o)
+key-rule : (e : Result Entry Refusal) (last above : ℕ) → follows last above e (λ g o. true) ≡ key_good (key_in last above e)
+key-rule (Ok e) last above = go (at_or_above last above e.group e.object)
   where
-    go : (b : Bool) → pick b true false ≡ key_good (pick b (Good g (suc o)) Bad)
+    go : (b : Bool) → pick b true false ≡ key_good (pick b (Good e.group (suc e.object)) Bad)
     go true = refl
     go false = refl
-key-rule Ends last above = refl
-key-rule Broken last above = refl
-key-rule OtherProfile last above = refl
+key-rule (Err refusal) last above = refl
 
 never-good : {A : Type 0} {g o : ℕ} → Bad ≡ Good g o → A
 never-good e = let z : ◌≡◌ {A = ℕ} 0 1 = cc in absurd (omega arith)
 
-key-parts : (e : Entry) (last above g o : ℕ) → key_in last above e ≡ Good g o → (group_in e ≡ g) × (above_in e ≡ o)
-key-parts (Record group object status age) last above g o e = go (at_or_above last above group object) e
+key-parts : (e : Result Entry Refusal) (last above g o : ℕ) → key_in last above e ≡ Good g o → (group_in e ≡ g) × (above_in e ≡ o)
+key-parts (Ok entry) last above g o e = go (at_or_above last above entry.group entry.object) e
   where
-    go : (b : Bool) → pick b (Good group (suc object)) Bad ≡ Good g o → (group ≡ g) × (suc object ≡ o)
+    go : (b : Bool) → pick b (Good entry.group (suc entry.object)) Bad ≡ Good g o → (entry.group ≡ g) × (suc entry.object ≡ o)
     go true e = (cc, cc)
     go false e = never-good e
-key-parts Ends last above g o e = never-good e
-key-parts Broken last above g o e = never-good e
-key-parts OtherProfile last above g o e = never-good e
+key-parts (Err refusal) last above g o e = never-good e
 
 module _ (p : Profile) where
   -- what a whole record brings

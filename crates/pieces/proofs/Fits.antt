@@ -9,10 +9,13 @@ use borrow.Author.Tests.{le-leb, lt-leb, ne_eqb, leb-true, ltb-true, eqb-true}
 use lib.Dec.{eqb, leb, ltb}
 use lib.ListN.{length, get_or, take, drop, get_or-eq_default}
 use lib.Seq.{length-take-le, split_at}
+use Rattle.std.specs.Prelude.{Result, Ok, Err, is_ok, is_err}
+use Rattle.report.proofs.Heeding.{good-is, number-refused}
 use Rattle.wire.specs.Bytes.{pick}
 use Rattle.wire.specs.Numbers.{all_small, read_number}
 use Rattle.wire.specs.declared.Number.{Number}
-use Rattle.wire.specs.declared.Number.TheVariants.{Value, Ends}
+use Rattle.wire.specs.declared.Refusal.{Refusal}
+use Rattle.wire.specs.declared.Refusal.TheVariants.{Ends}
 use Rattle.wire.proofs.Lengths.{split}
 use Rattle.entries.specs.Limits.{most_entries}
 use Rattle.entries.specs.Profiles.{record_size, most_metrics, number_of, Other}
@@ -27,7 +30,7 @@ use Rattle.report.proofs.Forth.{count-few}
 use Rattle.uncut.specs.State.{State, Numbers, Records, Counting, Refused, Accepted}
 use Rattle.uncut.proofs.Rows.{size-pos}
 use Rattle.pieces.specs.Record.{Stand, state_as, state_in, state_of, stand_at, profile_of, profile_in}
-use Rattle.pieces.specs.Fitness.{numbers_fit, is_ends, can_stand, field_fit, is_whole, place_fit, carried_fit, rows_fit, counted_fit, fit, stand_fit, consistent}
+use Rattle.pieces.specs.Fitness.{numbers_fit, can_stand, field_fit, is_whole, place_fit, carried_fit, rows_fit, counted_fit, fit, stand_fit, consistent}
 use Rattle.pieces.specs.Serving.{Ready, Sits}
 use Rattle.pieces.proofs.Loading.{numbers-long, held-long}
 use Rattle.pieces.proofs.Stages.{at-numbers, at_records, at-counting, at-refused, at-accepted}
@@ -42,7 +45,7 @@ both false b e = never e
 -- ---- the numbers
 
 -- numbers that bring no fault count no more metrics than the profile has
-pub metrics-few : (p : Profile) (ns : List ℕ) → first_fault p ns ≡ 0 → get_or ns at_metrics 0 ≤ most_metrics p
+pub metrics-few : (p : Profile) (ns : List ℕ) → first_fault p ns ≡ Ok tt → get_or ns at_metrics 0 ≤ most_metrics p
 metrics-few p ns g =
     split fixed_numbers (length ns)
     (λ h.
@@ -181,27 +184,31 @@ carried-less p left carried e = go (eqb left 0) e
     go false e = ltb-true carried (record_size p) e
 
 -- and no more records are to come than a report has
-pub rows_few : (p : Profile) (ns : List ℕ) (n : ℕ) → first_fault p ns ≡ 0 → length ns ≡ wanted_of p ns → n ≤ count_of ns → n ≤ most_entries
+pub rows_few : (p : Profile) (ns : List ℕ) (n : ℕ) → first_fault p ns ≡ Ok tt → length ns ≡ wanted_of p ns → n ≤ count_of ns → n ≤ most_entries
 rows_few p ns n g w l = omega (arith, count-few p ns g w)
+
+-- what is no whole field ends inside it
+pub unfinished : (held : List ℕ) → is_err (read_number held 0) ≡ true → read_number held 0 ≡ Err Ends
+unfinished held e = go (read_number held 0) refl e
+  where
+    go : (q : Result Number Refusal) → read_number held 0 ≡ q → is_err q ≡ true → read_number held 0 ≡ Err Ends
+    go (Ok k) r e = never e
+    go (Err refusal) r e = r ∙ ap Err (number-refused held 0 r)
 
 pub ready-fit : (p : Profile) (st : State) → fit p st ≡ true → Ready p st
 unfolding fit numbers_fit field_fit rows_fit
 ready-fit p (Numbers ns held) e =
     let a = both (numbers_fit p ns) (field_fit p ns held) e in
-    let b = both (all_small ns) (eqb (first_fault p ns) 0) a.0 in
-    let c = both (ltb (length ns) (wanted_of p ns)) (is_ends (read_number held 0)) a.1 in
-    ((ltb-true (length ns) (wanted_of p ns) c.0, go (read_number held 0) c.1), metrics-few p ns (eqb-true (first_fault p ns) 0 b.1))
-  where
-    go : (q : Number) → is_ends q ≡ true → q ≡ Ends
-    go (Value v next s) e = never e
-    go Ends e = refl
+    let b = both (all_small ns) (is_ok (first_fault p ns)) a.0 in
+    let c = both (ltb (length ns) (wanted_of p ns)) (is_err (read_number held 0)) a.1 in
+    ((ltb-true (length ns) (wanted_of p ns) c.0, unfinished held c.1), metrics-few p ns (good-is (first_fault p ns) b.1))
 ready-fit p (Records ns n last above held) e =
     let a = both (numbers_fit p ns) (is_whole p ns && rows_fit p (count_of ns) n last above (length held)) e in
-    let b = both (all_small ns) (eqb (first_fault p ns) 0) a.0 in
+    let b = both (all_small ns) (is_ok (first_fault p ns)) a.0 in
     let c = both (is_whole p ns) (rows_fit p (count_of ns) n last above (length held)) a.1 in
     let d = both (leb n (count_of ns)) (place_fit p (count_of ns) n last above && carried_fit p n (length held)) c.1 in
     let f = both (place_fit p (count_of ns) n last above) (carried_fit p n (length held)) d.1 in
-    (carried-less p n (length held) f.1, rows_few p ns n (eqb-true (first_fault p ns) 0 b.1) (eqb-true (length ns) (wanted_of p ns) c.0) (leb-true n (count_of ns) d.0))
+    (carried-less p n (length held) f.1, rows_few p ns n (good-is (first_fault p ns) b.1) (eqb-true (length ns) (wanted_of p ns) c.0) (leb-true n (count_of ns) d.0))
 ready-fit p (Counting _ n) e = tt
 ready-fit p (Refused n) e = tt
 ready-fit p (Accepted _) e = tt

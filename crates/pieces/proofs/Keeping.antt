@@ -6,15 +6,17 @@ use mathlib.Core.Logic.{inl, inr}
 use mathlib.Core.Bool.{Bool, true, false}
 use mathlib.Core.List.{List, [], ◌∷◌, ◌++◌}
 use native.Mathlib.Omega.{arith}
-use borrow.Author.Tests.{leb-true, leb-false, eqb-true, ltb-true}
-use lib.Dec.{leb, eqb, ltb}
+use borrow.Author.Tests.{leb-true, leb-false, ltb-true}
+use lib.Dec.{leb, ltb}
 use lib.ListN.{length, get_or, length-append, get_or-append, get_or-eq_default}
 use lib.Seq.{get_or-append_seam}
+use Rattle.std.specs.Prelude.{Result, Ok, Err}
 use Rattle.wire.specs.Bytes.{pick}
 use Rattle.wire.specs.Fields.{formed}
 use Rattle.wire.specs.Numbers.{read_number}
 use Rattle.wire.specs.declared.Number.{Number}
-use Rattle.wire.specs.declared.Number.TheVariants.{Value, Ends}
+use Rattle.wire.specs.Refusals.{refusal_number}
+use Rattle.wire.specs.declared.Refusal.{Refusal}
 use Rattle.wire.proofs.Lengths.{split}
 use Rattle.wire.proofs.Reading.{number-ends}
 use Rattle.entries.specs.Limits.{most_entries}
@@ -22,22 +24,26 @@ use Rattle.entries.specs.Profiles.{record_size, most_metrics}
 use Rattle.entries.specs.Entries.{entry_of, records_good}
 use Rattle.entries.specs.declared.Profile.{Profile}
 use Rattle.report.specs.Layout.{at_metrics, fixed_numbers}
-use Rattle.report.specs.Header.{judge, judge_field, wanted_of, count_of}
+use Rattle.report.specs.Header.{heeding, judge, judge_field, wanted_of, count_of}
+use Rattle.report.proofs.Heeding.{number-refused}
 use Rattle.report.proofs.Places.{place-judged}
 use Rattle.uncut.specs.State.{State, Numbers, Records, Counting, Refused, Accepted}
-use Rattle.uncut.specs.Step.{group_in, above_in, after_bad, with_number, field_grown, record_judged, record_grown, step, after}
+use Rattle.uncut.specs.Step.{group_in, above_in, after_bad, refused, with_number, field_grown, record_judged, record_grown, step, after}
 use Rattle.pieces.specs.Serving.{Ready}
 use Rattle.uncut.proofs.Rows.{size-pos}
 
 module _ (p : Profile) where
   -- a number that brings no refusal, where a further one is wanted
-  module _ (ns : List ℕ) (v : ℕ) (c : Bool) (j : judge_field p ns v c ≡ 0) (w : length ns < wanted_of p ns) (m : get_or ns at_metrics 0 ≤ most_metrics p) where
-    good : judge p ns v ≡ 0
+  module _ (ns : List ℕ) (v : ℕ) (c : Bool) (j : judge_field p ns v c ≡ Ok tt) (w : length ns < wanted_of p ns) (m : get_or ns at_metrics 0 ≤ most_metrics p) where
+    good : judge p ns v ≡ Ok tt
     good = go c j
       where
-        go : (b : Bool) → judge_field p ns v b ≡ 0 → judge p ns v ≡ 0
+        go : (b : Bool) → judge_field p ns v b ≡ Ok tt → judge p ns v ≡ Ok tt
         go true e = e
-        go false e = absurd (omega arith)
+        go false e = absurd (cc)
+
+    none : refusal_number (judge p ns v) ≡ 0
+    none = ap refusal_number good
 
     long : length (ns ++ (v ∷ [])) ≡ length ns + 1
     long = length-append ns (v ∷ [])
@@ -50,7 +56,7 @@ module _ (p : Profile) where
         (λ k.
         let e : length ns ≡ at_metrics = omega arith in
         let f : get_or (ns ++ (v ∷ [])) at_metrics 0 ≡ v = ap (λ (x : ℕ). get_or (ns ++ (v ∷ [])) x 0) (sym e) ∙ get_or-append_seam ns v [] 0 in
-        rw f (split v (most_metrics p) (λ h. h) (λ h. let t : judge p ns v ≡ 10 = (place-judged p ns v).ten.1 (inl (record { place = e; above = h })) in absurd (omega (arith, good)))))
+        rw f (split v (most_metrics p) (λ h. h) (λ h. let t : refusal_number (judge p ns v) ≡ 10 = (place-judged p ns v).ten.1 (inl (record { place = e; above = h })) in absurd (omega (arith, none)))))
         (λ k. let f : get_or (ns ++ (v ∷ [])) at_metrics 0 ≡ 0 = get_or-eq_default (ns ++ (v ∷ [])) 0 {n = at_metrics} (omega (arith, long)) in rw f zero-le))
 
     pub count-last : count_of (ns ++ (v ∷ [])) ≡ v
@@ -66,7 +72,7 @@ module _ (p : Profile) where
         let h' : wanted_of p ns ≤ length (ns ++ (v ∷ [])) = rw f at h in
         let n : length ns ≡ fixed_numbers + 2 * get_or ns at_metrics 0 = omega (arith, long) in
         rw count-last (split v most_entries (λ k. k)
-        (λ k. let t : judge p ns v ≡ 10 = (place-judged p ns v).ten.1 (inr (inr (record { place = record { behind = l; even = λ o. omega arith }; last = omega arith; above = k }))) in absurd (omega (arith, good)))))
+        (λ k. let t : refusal_number (judge p ns v) ≡ 10 = (place-judged p ns v).ten.1 (inr (inr (record { place = record { behind = l; even = λ o. omega arith }; last = omega arith; above = k }))) in absurd (omega (arith, none)))))
         (λ l. absurd (omega (arith, long, wants)))
       where
         wants : fixed_numbers + 1 ≤ wanted_of p (ns ++ (v ∷ []))
@@ -86,14 +92,14 @@ module _ (p : Profile) where
   unfolding field_grown
   ready-field ns held w m = go (read_number held 0) refl
     where
-      judged : (v : ℕ) (c : Bool) (b : Bool) → eqb (judge_field p ns v c) 0 ≡ b → Ready p (pick b (with_number p (ns ++ (v ∷ []))) (Refused (judge_field p ns v c)))
-      judged v c true e = let j : judge_field p ns v c ≡ 0 = eqb-true (judge_field p ns v c) 0 e in ready-number (ns ++ (v ∷ [])) (metrics-within ns v c j w m) (count-within ns v c j w m)
-      judged v c false e = tt
+      judged : (v : ℕ) (c : Bool) (x : Result Unit Refusal) → judge_field p ns v c ≡ x → Ready p (heeding x refused (with_number p (ns ++ (v ∷ []))))
+      judged v c (Ok u) j = ready-number (ns ++ (v ∷ [])) (metrics-within ns v c j w m) (count-within ns v c j w m)
+      judged v c (Err refusal) j = tt
 
-      go : (q : Number) → read_number held 0 ≡ q
-          → Ready p (formed q (Numbers ns held) (λ v next b. pick (eqb (judge_field p ns v b) 0) (with_number p (ns ++ (v ∷ []))) (Refused (judge_field p ns v b))))
-      go (Value v next c) e = judged v c (eqb (judge_field p ns v c) 0) refl
-      go Ends e = ((w, e), m)
+      go : (q : Result Number Refusal) → read_number held 0 ≡ q
+          → Ready p (formed q (Numbers ns held) (λ v next b. heeding (judge_field p ns v b) refused (with_number p (ns ++ (v ∷ [])))))
+      go (Ok k) e = judged k.value k.shortest (judge_field p ns k.value k.shortest) refl
+      go (Err refusal) e = ((w, e ∙ ap Err (number-refused held 0 e)), m)
 
   ready-record : (ns : List ℕ) (n last above : ℕ) (held : List ℕ) → suc n ≤ most_entries → Ready p (record_grown p ns n last above held)
   unfolding record_grown record_judged

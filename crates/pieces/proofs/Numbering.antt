@@ -6,14 +6,18 @@ use mathlib.Core.Bool.{Bool, true, false}
 use mathlib.Core.List.{List, [], ◌∷◌, ◌++◌}
 use native.Mathlib.Numerals.{add-one}
 use native.Mathlib.Omega.{arith}
-use borrow.Author.Tests.{le-leb, lt-leb, eq-eqb, ne_eqb}
+use borrow.Author.Tests.{le-leb, lt-leb, ne_eqb}
 use lib.Dec.{eqb}
 use lib.ListN.{length, get_or, take, drop, set, length-append, length-drop, length-set, take-append-drop}
 use lib.Seq.{length-take-le, take_all, take-suc-set, take-add, take-append-add, take-append-le, drop-nil, get_or-take, get_or-drop}
 use Rattle.wire.specs.Bytes.{pick}
 use Rattle.wire.proofs.Lengths.{split}
 use Rattle.wire.specs.Numbers.{read_number}
-use Rattle.wire.specs.declared.Number.TheVariants.{Value, Ends}
+use Rattle.std.specs.Prelude.{Ok, Err}
+use Rattle.wire.specs.Fields.{found}
+use Rattle.wire.specs.Refusals.{number_of}
+use Rattle.wire.specs.declared.Refusal.{Refusal}
+use Rattle.wire.specs.declared.Refusal.TheVariants.{Ends}
 use Rattle.entries.specs.declared.Profile.{Profile}
 use Rattle.report.specs.Header.{judge_field, wanted_of, count_of}
 use Rattle.report.proofs.Following.{wanted-most}
@@ -64,7 +68,7 @@ module _ (p : Profile) (st : State) (part held : List ℕ) where
     served-over l y = lead (moved_to 0 0 count numbers carried held at) refl h.within (rw (at-numbers 0 0 0 0 (take count numbers) (take carried held) refl) h.chunk) y h.few h.little h.numbers-long h.held-long
 
     -- the field that begins is not whole
-    module _ (e : read_number (take carried held ++ drop at part) 0 ≡ Ends) where
+    module _ (e : read_number (take carried held ++ drop at part) 0 ≡ Err Ends) where
       pub kept-short : get_or (take carried held ++ drop at part) 0 0 < 256 → carried + (length part - at) < 8
       kept-short o =
           let l : length (take carried held ++ drop at part) ≡ length (take carried held) + length (drop at part) = length-append (take carried held) (drop at part) in
@@ -98,7 +102,7 @@ module _ (p : Profile) (st : State) (part held : List ℕ) where
           split b.n carried
           (λ l.
           let t : take b.n s ≡ take b.n held_now = take-append-le b.n held_now (drop at part) (omega (arith, carried-is)) in
-          let q : read_number (take b.n held_now) 0 ≡ Value v b.n c = ap (λ (x : List ℕ). read_number x 0) (sym t) ∙ read-prefix s v b.n c b.reads in
+          let q : read_number (take b.n held_now) 0 ≡ found v b.n c = ap (λ (x : List ℕ). read_number x 0) (sym t) ∙ read-prefix s v b.n c b.reads in
           never-value (sym h.ready.0.1 ∙ ap (λ (x : List ℕ). read_number x 0) (sym (take-append-drop b.n held_now)) ∙ still-there (take b.n held_now) (drop b.n held_now) q))
           (λ l. l)
 
@@ -123,23 +127,23 @@ module _ (p : Profile) (st : State) (part held : List ℕ) where
       pub whole_chunk : Chunk p st (take next part) (judged p (take count numbers) v c)
       whole_chunk =
           let a : take next part ≡ take at part ++ take (b.n - carried) (drop at part) = ap (λ (x : ℕ). take x part) gone ∙ take-add at (b.n - carried) part in
-          let r : read_number (held_now ++ take (b.n - carried) (drop at part)) 0 ≡ Value v b.n c = ap (λ (x : List ℕ). read_number x 0) taken ∙ read-prefix s v b.n c b.reads in
+          let r : read_number (held_now ++ take (b.n - carried) (drop at part)) 0 ≡ found v b.n c = ap (λ (x : List ℕ). read_number x 0) taken ∙ read-prefix s v b.n c b.reads in
           let l : b.n ≡ length (held_now ++ take (b.n - carried) (drop at part)) = sym (ap length taken ∙ length-take-le b.n s there) in
           rw a (chunk-then p st (Numbers (take count numbers) held_now) (judged p (take count numbers) v c) (take at part) (take (b.n - carried) (drop at part)) h.chunk
           (chunk_whole p (take count numbers) held_now (take (b.n - carried) (drop at part)) v b.n c h.ready.0.1 r l))
 
-      pub served-refused : (j : ℕ) → j ≡ judge_field p (take count numbers) v c → (j ≡ 0 → ⊥) → Ready p st → (out : List ℕ) → Served p st part out (moved_to 3 j count numbers carried held next) out
-      served-refused j e n y =
-          let f : judge_field p (take count numbers) v c ≡ 0 → ⊥ = λ z. n (e ∙ z) in
-          let q : judged p (take count numbers) v c ≡ Refused j = rw (ne_eqb (judge_field p (take count numbers) v c) 0 f, e) refl in
+      pub served-refused : (refusal : Refusal) → judge_field p (take count numbers) v c ≡ Err refusal → Ready p st → (out : List ℕ) → Served p st part out (moved_to 3 (number_of refusal) count numbers carried held next) out
+      served-refused refusal e y =
+          let j : ℕ = number_of refusal in
+          let q : judged p (take count numbers) v c ≡ Refused j = rw e refl in
           lead (moved_to 3 j count numbers carried held next) refl next-within (rw (at-refused 3 j 0 0 (take count numbers) held_now refl) (rw q at whole_chunk)) y h.few h.little h.numbers-long h.held-long
 
-      module _ (j : judge_field p (take count numbers) v c ≡ 0) where
+      module _ (j : judge_field p (take count numbers) v c ≡ Ok tt) where
         snoc : take (count + 1) (set numbers count v) ≡ take count numbers ++ (v ∷ [])
         snoc = rw add-one (take-suc-set numbers count v (omega (arith, count-below, h.numbers-long)))
 
         brought : judged p (take count numbers) v c ≡ with_number p (take (count + 1) (set numbers count v))
-        brought = rw (eq-eqb (judge_field p (take count numbers) v c) 0 j, snoc)
+        brought = rw (j, snoc)
 
         many : length (take (count + 1) (set numbers count v)) ≡ count + 1
         many = length-take-le (count + 1) (set numbers count v) (rw length-set (omega (arith, count-below, h.numbers-long)))
@@ -185,7 +189,7 @@ module _ (p : Profile) (z st : State) (part held : List ℕ) (e : z ≡ st) (y :
   pub over_done : length part ≤ at → (m : Moved) → m ≡ moved_to 0 0 count numbers carried held at → Left m
   over_done l m q = rw q (λ out. rw e (served-over p st part held h l y out), rw (at-numbers 0 0 0 0 (take count numbers) (take carried held) refl) (none_left part at l))
 
-  pub kept-done : read_number (take carried held ++ drop at part) 0 ≡ Ends → (kept : List ℕ) → carried + (length part - at) ≤ 24 → length kept ≡ 24
+  pub kept-done : read_number (take carried held ++ drop at part) 0 ≡ Err Ends → (kept : List ℕ) → carried + (length part - at) ≤ 24 → length kept ≡ 24
       → take (carried + length (take (length part - at) (drop at part))) kept ≡ take carried held ++ take (length part - at) (drop at part)
       → (m : Moved) → m ≡ moved_to 0 0 count numbers (carried + (length part - at)) kept (length part) → Left m
   kept-done f kept g k t m q =
@@ -193,11 +197,11 @@ module _ (p : Profile) (z st : State) (part held : List ℕ) (e : z ≡ st) (y :
       let u : take (carried + length (drop at part)) kept ≡ take carried held ++ drop at part = rw w at t in
       rw q (λ out. rw e (served-kept p st part held h f kept g k u y out), rw (at-numbers 0 0 0 0 (take count numbers) (take (carried + (length part - at)) kept) refl) (none_left part (length part) (omega arith)))
 
-  pub refused-done : (v next : ℕ) (c : Bool) → Behind carried at v next c (read_number (take carried held ++ drop at part) 0) → (j : ℕ) → j ≡ judge_field p (take count numbers) v c → (j ≡ 0 → ⊥)
-      → (m : Moved) → m ≡ moved_to 3 j count numbers carried held next → Left m
-  refused-done v next c b j f g m q = rw q (λ out. rw e (served-refused p st part held h v next c b j f g y out), rw (at-refused 3 j 0 0 (take count numbers) (take carried held) refl) tt)
+  pub refused-done : (v next : ℕ) (c : Bool) → Behind carried at v next c (read_number (take carried held ++ drop at part) 0) → (refusal : Refusal) → judge_field p (take count numbers) v c ≡ Err refusal
+      → (m : Moved) → m ≡ moved_to 3 (number_of refusal) count numbers carried held next → Left m
+  refused-done v next c b refusal f m q = rw q (λ out. rw e (served-refused p st part held h v next c b refusal f y out), rw (at-refused 3 (number_of refusal) 0 0 (take count numbers) (take carried held) refl) tt)
 
-  pub whole-done : (v next : ℕ) (c : Bool) → Behind carried at v next c (read_number (take carried held ++ drop at part) 0) → judge_field p (take count numbers) v c ≡ 0
+  pub whole-done : (v next : ℕ) (c : Bool) → Behind carried at v next c (read_number (take carried held ++ drop at part) 0) → judge_field p (take count numbers) v c ≡ Ok tt
       → wanted_of p (take (count + 1) (set numbers count v)) ≤ count + 1 → (m : Moved) → m ≡ moved_to 1 v (count + 1) (set numbers count v) 0 held next → Left m
   whole-done v next c b j w m q = rw q (λ out. rw e (served-whole p st part held h v next c b j w y out), rw (at_records 1 v 0 0 (take (count + 1) (set numbers count v)) (take 0 held) refl) tt)
 

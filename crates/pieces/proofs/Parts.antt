@@ -1,53 +1,65 @@
 -- The tests of a record's parts, one by one, as the code makes them: what each leaves of the whole test.
 -- Assumes nothing.
-use Prim.Native.Nat.{ℕ, suc, ◌+◌, ◌-◌, ◌*◌, ◌≤◌, ◌<◌}
-use mathlib.Core.Path.{◌≡◌}
-use mathlib.Core.Bool.{true, false, ◌&&◌}
-use mathlib.Core.List.{List}
+use Prim.Native.Nat.{ℕ, zero, suc, zero-le, suc-le-suc, ◌+◌, ◌-◌, ◌*◌, ◌≤◌, ◌<◌}
+use mathlib.Core.Path.{◌≡◌, refl, sym}
+use mathlib.Core.Bool.{Bool, true, false, ◌&&◌}
+use mathlib.Core.List.{List, [], ◌∷◌}
 use native.Mathlib.Omega.{arith}
 use borrow.Author.Tests.{le-leb, lt-leb, lt-ltb, le-ltb, eq-eqb, ne_eqb, eqb-true}
 use lib.Dec.{eqb, leb, ltb}
-use lib.ListN.{length, get_or, drop, drop_of_length-le}
-use lib.Seq.{drop-cons}
+use lib.ListN.{length}
 use Rattle.wire.specs.Numbers.{limit, all_small, read_number}
+use Rattle.std.specs.Prelude.{Result, is_ok, is_err}
+use Rattle.std.specs.Bool.{MatchBool}
+use Rattle.std.specs.List.{AllWithin, HoldsAt}
+use Rattle.wire.specs.Bytes.{pick}
 use Rattle.wire.specs.declared.Number.{Number}
+use Rattle.wire.specs.declared.Refusal.{Refusal}
+use Rattle.report.proofs.Heeding.{good-is}
 use Rattle.entries.specs.Limits.{most_entries}
 use Rattle.entries.specs.Profiles.{record_size}
 use Rattle.entries.specs.declared.Profile.{Profile}
 use Rattle.entries.specs.declared.Profile.TheVariants.{One, Two}
 use Rattle.report.specs.Header.{first_fault, wanted_of, count_of}
 use Rattle.report.proofs.Forth.{count-few}
-use Rattle.pieces.specs.Fitness.{numbers_fit, is_ends, field_fit, is_whole, largest_group, place_fit, rows_fit, counted_fit}
+use Rattle.pieces.specs.Fitness.{numbers_fit, field_fit, is_whole, largest_group, place_fit, rows_fit, counted_fit}
 use Rattle.pieces.proofs.Fits.{both}
 
 -- ---- the numbers
 
--- looked at from the i-th on
-pub small-stop : (ns : List ℕ) (i : ℕ) → i < length ns → limit < get_or ns i 0 → false ≡ all_small (drop i ns)
+-- none is above the limit, or one is
+within-small : (ns : List ℕ) → AllWithin (λ v. v ≤ limit) ns 0 (length ns) → all_small ns ≡ true
 unfolding all_small
-small-stop ns i h g = rw (drop-cons ns i 0 h, lt-leb (get_or ns i 0) limit g)
+within-small [] f = refl
+within-small (v ∷ ns) f = rw (le-leb v limit (f 0 0 zero-le (suc-le-suc zero-le))) (within-small ns (λ k d l h. f (suc k) d zero-le (suc-le-suc h)))
 
-pub small-next : (ns : List ℕ) (i : ℕ) → i < length ns → get_or ns i 0 ≤ limit → all_small (drop (i + 1) ns) ≡ all_small (drop i ns)
+above-large : (ns : List ℕ) (k : ℕ) → k < length ns → HoldsAt (λ v. limit < v) ns k → all_small ns ≡ false
 unfolding all_small
-small-next ns i h g = let e : i + 1 ≡ suc i = omega arith in rw (drop-cons ns i 0 h, le-leb (get_or ns i 0) limit g, e)
+above-large [] k h f = absurd (omega arith)
+above-large (v ∷ ns) zero h f = rw (lt-leb v limit (f 0)) refl
+above-large (v ∷ ns) (suc k) h f = go (leb v limit) (above-large ns k (omega arith) (λ d. f d))
+  where
+    go : (b : Bool) → all_small ns ≡ false → pick b (all_small ns) false ≡ false
+    go true e = e
+    go false e = refl
 
-pub small-end : (ns : List ℕ) (i : ℕ) → length ns ≤ i → true ≡ all_small (drop i ns)
-unfolding all_small
-small-end ns i h = rw (drop_of_length-le ns h)
+pub small-told : (r : Bool) (ns : List ℕ) → MatchBool r (AllWithin (λ v. v ≤ limit) ns 0 (length ns)) ((k : ℕ) × (k < length ns) × HoldsAt (λ v. limit < v) ns k) → r ≡ all_small ns
+small-told true ns f = sym (within-small ns f)
+small-told false ns f = sym (above-large ns f.0 f.1 f.2)
 
 module _ (p : Profile) (ns : List ℕ) where
   pub numbers-large : all_small ns ≡ false → false ≡ numbers_fit p ns
   unfolding numbers_fit
   numbers-large e = rw e
 
-  pub numbers-judged : all_small ns ≡ true → eqb (first_fault p ns) 0 ≡ numbers_fit p ns
+  pub numbers-judged : all_small ns ≡ true → is_ok (first_fault p ns) ≡ numbers_fit p ns
   unfolding numbers_fit
   numbers-judged e = rw e
 
   -- numbers that pass, and are a whole header's, count no more entries than a report has
   pub count_fits : numbers_fit p ns ≡ true → is_whole p ns ≡ true → count_of ns ≤ most_entries
   unfolding numbers_fit
-  count_fits e w = count-few p ns (eqb-true (first_fault p ns) 0 (both (all_small ns) (eqb (first_fault p ns) 0) e).1) (eqb-true (length ns) (wanted_of p ns) w)
+  count_fits e w = count-few p ns (good-is (first_fault p ns) (both (all_small ns) (is_ok (first_fault p ns)) e).1) (eqb-true (length ns) (wanted_of p ns) w)
 
 -- ---- the field
 
@@ -56,7 +68,7 @@ module _ (p : Profile) (ns held : List ℕ) where
   unfolding field_fit
   field-whole h = rw (le-ltb (length ns) (wanted_of p ns) h)
 
-  pub field-read : (q : Number) → read_number held 0 ≡ q → length ns < wanted_of p ns → is_ends q ≡ field_fit p ns held
+  pub field-read : (q : Result Number Refusal) → read_number held 0 ≡ q → length ns < wanted_of p ns → is_err q ≡ field_fit p ns held
   unfolding field_fit
   field-read q e h = rw (lt-ltb (length ns) (wanted_of p ns) h, e)
 

@@ -9,20 +9,20 @@ use native.Mathlib.Omega.{arith}
 use borrow.Author.Tests.{le-leb, lt-ltb, eq-eqb, leb-true, ltb-true, eqb-true, eqb-false}
 use lib.Dec.{eqb, leb, ltb}
 use lib.ListN.{length, get_or}
+use Rattle.std.specs.Prelude.{is_ok, is_err}
+use Rattle.report.proofs.Heeding.{good-is}
 use Rattle.wire.specs.Bytes.{pick}
 use Rattle.wire.specs.Numbers.{limit, all_small, read_number}
 use Rattle.wire.specs.Exactly.{OneOf}
-use Rattle.wire.specs.declared.Number.{Number}
-use Rattle.wire.specs.declared.Number.TheVariants.{Value, Ends}
 use Rattle.wire.proofs.Small.{all_small_lem}
 use Rattle.entries.specs.Profiles.{record_size}
 use Rattle.entries.specs.declared.Profile.{Profile}
 use Rattle.report.specs.Header.{first_fault, wanted_of, count_of}
 use Rattle.uncut.specs.State.{State, Numbers, Records, Counting, Refused, Accepted}
 use Rattle.pieces.specs.Record.{profile_in, stand_at, state_of}
-use Rattle.pieces.specs.Fitness.{numbers_fit, is_ends, can_stand, field_fit, is_whole, largest_group, place_fit, carried_fit, rows_fit, counted_fit, fit, stand_fit, consistent}
+use Rattle.pieces.specs.Fitness.{numbers_fit, can_stand, field_fit, is_whole, largest_group, place_fit, carried_fit, rows_fit, counted_fit, fit, stand_fit, consistent}
 use Rattle.pieces.specs.Exactly.{NumbersObey, RowsObey, Fit, Consistent, ConsistentExactly}
-use Rattle.pieces.proofs.Fits.{both, carried-less, consistent-known, passed}
+use Rattle.pieces.proofs.Fits.{unfinished, both, carried-less, consistent-known, passed}
 
 never : {A : Type 0} → false ≡ true → A
 never e = let z : ◌≡◌ {A = ℕ} 0 1 = cc in absurd (omega arith)
@@ -30,7 +30,7 @@ never e = let z : ◌≡◌ {A = ℕ} 0 1 = cc in absurd (omega arith)
 module _ (p : Profile) where
   numbers-obey : (ns : List ℕ) → numbers_fit p ns ≡ true → NumbersObey p ns
   unfolding numbers_fit
-  numbers-obey ns e = let a = both (all_small ns) (eqb (first_fault p ns) 0) e in ((all_small_lem ns).0 a.0, eqb-true (first_fault p ns) 0 a.1)
+  numbers-obey ns e = let a = both (all_small ns) (is_ok (first_fault p ns)) e in ((all_small_lem ns).0 a.0, good-is (first_fault p ns) a.1)
 
   obey-numbers : (ns : List ℕ) → NumbersObey p ns → numbers_fit p ns ≡ true
   unfolding numbers_fit
@@ -98,12 +98,8 @@ module _ (p : Profile) where
   unfolding fit field_fit counted_fit
   fit-fact (Numbers ns held) e =
       let a = both (numbers_fit p ns) (field_fit p ns held) e in
-      let c = both (ltb (length ns) (wanted_of p ns)) (is_ends (read_number held 0)) a.1 in
-      (numbers-obey ns a.0, (ltb-true (length ns) (wanted_of p ns) c.0, ends (read_number held 0) c.1))
-    where
-      ends : (q : Number) → is_ends q ≡ true → q ≡ Ends
-      ends (Value v next s) e = never e
-      ends Ends e = refl
+      let c = both (ltb (length ns) (wanted_of p ns)) (is_err (read_number held 0)) a.1 in
+      (numbers-obey ns a.0, (ltb-true (length ns) (wanted_of p ns) c.0, unfinished held c.1))
   fit-fact (Records ns n last above held) e =
       let a = both (numbers_fit p ns) (is_whole p ns && rows_fit p (count_of ns) n last above (length held)) e in
       let b = both (is_whole p ns) (rows_fit p (count_of ns) n last above (length held)) a.1 in

@@ -8,14 +8,19 @@ use native.Mathlib.Omega.{arith}
 use lib.Pow.{pow_pos, pow_mono}
 use lib.ListN.{length, get_or, take, drop, take-append-drop, get_or-append}
 use lib.Seq.{length-take-le, take_all, take-append-le, take-append-add, get_or-take}
+use Rattle.std.specs.Prelude.{Result, Ok, Err}
+use Rattle.wire.specs.Fields.{found}
 use Rattle.wire.specs.Numbers.{len_of, read_number}
 use Rattle.wire.specs.declared.Number.{Number}
-use Rattle.wire.specs.declared.Number.TheVariants.{Value, Ends}
+use Rattle.wire.specs.declared.Refusal.{Refusal}
+use Rattle.wire.specs.declared.Refusal.TheVariants.{Ends}
 use Rattle.wire.proofs.Lengths.{split}
 use Rattle.pieces.specs.Reading.{shifted}
+use Rattle.wire.proofs.Reading.{found-same}
+use Rattle.report.proofs.Heeding.{number-refused}
 use Rattle.uncut.proofs.Grown.{never-value, value_there, value-place, ends-missing, still-there, moved, read_dropped}
 
-pub read-prefix : (s : List ℕ) (v n : ℕ) (c : Bool) → read_number s 0 ≡ Value v n c → read_number (take n s) 0 ≡ Value v n c
+pub read-prefix : (s : List ℕ) (v n : ℕ) (c : Bool) → read_number s 0 ≡ found v n c → read_number (take n s) 0 ≡ found v n c
 read-prefix s v n c e = go (read_number (take n s) 0) refl
   where
     there : 0 + len_of (get_or s 0 0 / 64) ≤ length s
@@ -24,19 +29,19 @@ read-prefix s v n c e = go (read_number (take n s) 0) refl
     place : n ≡ 0 + len_of (get_or s 0 0 / 64)
     place = value-place s 0 e
 
-    go : (q : Number) → read_number (take n s) 0 ≡ q → read_number (take n s) 0 ≡ Value v n c
-    go (Value v' n' c') r =
-        let t : read_number (take n s ++ drop n s) 0 ≡ Value v' n' c' = still-there (take n s) (drop n s) r in
+    go : (q : Result Number Refusal) → read_number (take n s) 0 ≡ q → read_number (take n s) 0 ≡ found v n c
+    go (Ok k) r =
+        let t : read_number (take n s ++ drop n s) 0 ≡ found k.value k.next k.shortest = still-there (take n s) (drop n s) r in
         r ∙ sym t ∙ ap (λ (x : List ℕ). read_number x 0) (take-append-drop n s) ∙ e
-    go Ends r =
+    go (Err refusal) r =
         let pos : 0 < n = omega (arith, place, pow_pos (get_or s 0 0 / 64)) in
         let f : get_or (take n s) 0 0 ≡ get_or s 0 0 = get_or-take n s 0 0 pos in
         let l : length (take n s) ≡ n = length-take-le n s (omega (arith, place, there)) in
-        let m : length (take n s) < 0 + len_of (get_or s 0 0 / 64) = rw f at (ends-missing (take n s) 0 r) in
+        let m : length (take n s) < 0 + len_of (get_or s 0 0 / 64) = rw f at (ends-missing (take n s) 0 (r ∙ ap Err (number-refused (take n s) 0 r))) in
         absurd (omega (arith, place))
 
 -- a field is at most eight bytes long
-pub ends-short : (s : List ℕ) → get_or s 0 0 < 256 → read_number s 0 ≡ Ends → length s < 8
+pub ends-short : (s : List ℕ) → get_or s 0 0 < 256 → read_number s 0 ≡ Err Ends → length s < 8
 ends-short s h e =
     let m : len_of (get_or s 0 0 / 64) ≤ len_of 3 = let k : get_or s 0 0 / 64 ≤ 3 = omega arith in pow_mono k in
     omega (arith, ends-missing s 0 e)
@@ -44,11 +49,11 @@ ends-short s h e =
 pub read-eight : (s : List ℕ) → get_or s 0 0 < 256 → read_number (take 8 s) 0 ≡ read_number s 0
 read-eight s h = go (read_number (take 8 s) 0) refl
   where
-    go : (q : Number) → read_number (take 8 s) 0 ≡ q → read_number (take 8 s) 0 ≡ read_number s 0
-    go (Value v n c) r = r ∙ sym (still-there (take 8 s) (drop 8 s) r) ∙ ap (λ (x : List ℕ). read_number x 0) (take-append-drop 8 s)
-    go Ends r =
+    go : (q : Result Number Refusal) → read_number (take 8 s) 0 ≡ q → read_number (take 8 s) 0 ≡ read_number s 0
+    go (Ok k) r = r ∙ sym (still-there (take 8 s) (drop 8 s) r) ∙ ap (λ (x : List ℕ). read_number x 0) (take-append-drop 8 s)
+    go (Err refusal) r =
         let f : get_or (take 8 s) 0 0 ≡ get_or s 0 0 = get_or-take 8 s 0 0 (omega arith) in
-        let m : length (take 8 s) < 8 = ends-short (take 8 s) (rw f h) r in
+        let m : length (take 8 s) < 8 = ends-short (take 8 s) (rw f h) (r ∙ ap Err (number-refused (take 8 s) 0 r)) in
         split 8 (length s) (λ l. let k : length (take 8 s) ≡ 8 = length-take-le 8 s l in absurd (omega arith)) (λ l. ap (λ (x : List ℕ). read_number x 0) (take_all 8 s (omega arith)))
 
 -- what is read behind the bytes carried is read from as many more as make eight
@@ -68,35 +73,33 @@ read_behind held rest h o =
 pub read_here : (part : List ℕ) (at : ℕ) → at ≤ length part → read_number part at ≡ shifted 0 at (read_number (drop at part) 0)
 read_here part at h = read_dropped part at h ∙ go (read_number (drop at part) 0)
   where
-    go : (q : Number) → moved at q ≡ shifted 0 at q
-    go (Value v n c) = let e : n - 0 ≡ n = omega arith in rw e
-    go Ends = refl
+    go : (q : Result Number Refusal) → moved at q ≡ shifted 0 at q
+    go (Ok k) = let e : k.next - 0 ≡ k.next = omega arith in rw e
+    go (Err refusal) = refl
 
 -- what the place of a number that begins with what is carried tells
-pub shifted-ends : (carried at : ℕ) (q : Number) → shifted carried at q ≡ Ends → q ≡ Ends
-shifted-ends carried at (Value v n c) e = never-value (sym e)
-shifted-ends carried at Ends e = refl
+pub shifted-refused : (carried at : ℕ) (q : Result Number Refusal) {refusal : Refusal} → shifted carried at q ≡ Err refusal → q ≡ Err refusal
+shifted-refused carried at (Ok k) e = never-value (sym e)
+shifted-refused carried at (Err refusal) e = e
 
-pub record Behind (carried at v next : ℕ) (c : Bool) (q : Number) : Type 0 where
+pub record Behind (carried at v next : ℕ) (c : Bool) (q : Result Number Refusal) : Type 0 where
   pub n : ℕ
-  pub reads : q ≡ Value v n c
+  pub reads : q ≡ found v n c
   pub place : next ≡ at + (n - carried)
 
-pub shifted-value : (carried at v next : ℕ) (c : Bool) (q : Number) → shifted carried at q ≡ Value v next c → Behind carried at v next c q
-shifted-value carried at v next c (Value v' n' c') e =
-    let f : v' ≡ v = cc in
-    let g : c' ≡ c = cc in
-    let m : at + (n' - carried) ≡ next = cc in
-    record { n = n'; reads = rw (f, g) refl; place = sym m }
-shifted-value carried at v next c Ends e = never-value e
+pub shifted-value : (carried at v next : ℕ) (c : Bool) (q : Result Number Refusal) → shifted carried at q ≡ found v next c → Behind carried at v next c q
+shifted-value carried at v next c (Ok k) e =
+    let s = found-same e in
+    record { n = k.next; reads = rw (← s.0, ← s.2) refl; place = sym s.1 }
+shifted-value carried at v next c (Err refusal) e = never-value e
 
 -- a field that more bytes make whole ends among them
-pub value-past : (held rest : List ℕ) (v n : ℕ) (c : Bool) → read_number held 0 ≡ Ends → read_number (held ++ rest) 0 ≡ Value v n c → length held < n
+pub value-past : (held rest : List ℕ) (v n : ℕ) (c : Bool) → read_number held 0 ≡ Err Ends → read_number (held ++ rest) 0 ≡ found v n c → length held < n
 value-past held rest v n c u e =
     split n (length held)
     (λ l.
     let t : take n (held ++ rest) ≡ take n held = take-append-le n held rest l in
-    let q : read_number (take n held) 0 ≡ Value v n c = ap (λ (x : List ℕ). read_number x 0) (sym t) ∙ read-prefix (held ++ rest) v n c e in
+    let q : read_number (take n held) 0 ≡ found v n c = ap (λ (x : List ℕ). read_number x 0) (sym t) ∙ read-prefix (held ++ rest) v n c e in
     never-value (sym u ∙ ap (λ (x : List ℕ). read_number x 0) (sym (take-append-drop n held)) ∙ still-there (take n held) (drop n held) q))
     (λ l. l)
 

@@ -8,7 +8,9 @@ use native.Mathlib.Nat.{mul-suc, mul-zero}
 use native.Mathlib.Omega.{arith}
 use lib.ListN.{length, take, drop, length-append, length-drop}
 use lib.Seq.{length-take-le, take-add, drop-drop}
+use Rattle.std.specs.Prelude.{Result, Ok, Err}
 use Rattle.wire.specs.Bytes.{pick}
+use Rattle.wire.specs.declared.Refusal.{Refusal}
 use Rattle.entries.specs.Profiles.{record_size}
 use Rattle.entries.specs.declared.Profile.{Profile}
 use Rattle.uncut.specs.State.{State, Records}
@@ -18,7 +20,6 @@ use Rattle.pieces.specs.Reading.{Key, Good, Bad, key_in, key_of}
 use Rattle.entries.specs.Entries.{entry_of, at_or_above, follows_or}
 use Rattle.entries.specs.Runs.{run_to, run_from}
 use Rattle.entries.specs.declared.Entry.{Entry}
-use Rattle.entries.specs.declared.Entry.TheVariants.{Record, Ends, Broken, OtherProfile}
 use Rattle.entries.specs.declared.Run.{Run}
 use Rattle.uncut.proofs.Cuts.{after-append, delivered-append}
 use Rattle.pieces.proofs.Going.{taking-append}
@@ -30,15 +31,13 @@ abbrev pub by_key : {A : Type 0} → Key → (ℕ → ℕ → A) → A → A
 by_key (Good group above) f x = f group above
 by_key Bad f x = x
 
-pub by_key_lem : {A : Type 0} (last above : ℕ) (e : Entry) (f : ℕ → ℕ → A) (x : A) → follows_or last above e f x ≡ by_key (key_in last above e) f x
-by_key_lem last above (Record g o status age) f x = go (at_or_above last above g o)
+pub by_key_lem : {A : Type 0} (last above : ℕ) (e : Result Entry Refusal) (f : ℕ → ℕ → A) (x : A) → follows_or last above e f x ≡ by_key (key_in last above e) f x
+by_key_lem last above (Ok e) f x = go (at_or_above last above e.group e.object)
   where
-    go : (b : Bool) → pick b (f g (suc o)) x ≡ by_key (pick b (Good g (suc o)) Bad) f x
+    go : (b : Bool) → pick b (f e.group (suc e.object)) x ≡ by_key (pick b (Good e.group (suc e.object)) Bad) f x
     go true = refl
     go false = refl
-by_key_lem last above Ends f x = refl
-by_key_lem last above Broken f x = refl
-by_key_lem last above OtherProfile f x = refl
+by_key_lem last above (Err refusal) f x = refl
 
 module _ (p : Profile) where
   -- bytes one after the other, each with the room that the ones before leave

@@ -5,20 +5,21 @@ use mathlib.Core.Path.{◌≡◌, refl, sym, ap, subst, ◌∙◌}
 use mathlib.Core.Bool.{Bool, true, false}
 use mathlib.Core.List.{List, [], ◌∷◌, ◌++◌}
 use native.Mathlib.Omega.{arith}
-use lib.Dec.{leb, eqb, ltb}
+use lib.Dec.{leb, ltb}
 use lib.ListN.{length, take, drop, length-drop}
+use Rattle.std.specs.Prelude.{Result, Ok, Err}
 use Rattle.wire.specs.Bytes.{pick, Octets}
 use Rattle.wire.specs.Fields.{formed}
 use Rattle.wire.specs.Numbers.{read_number}
 use Rattle.wire.specs.declared.Number.{Number}
-use Rattle.wire.specs.declared.Number.TheVariants.{Value, Ends}
+use Rattle.wire.specs.declared.Refusal.{Refusal}
 use Rattle.entries.specs.Profiles.{record_size, number_of}
 use Rattle.entries.specs.Entries.{entry_of, records_good}
 use Rattle.entries.specs.declared.Profile.{Profile}
 use Rattle.entries.specs.declared.Profile.TheVariants.{One, Two}
-use Rattle.report.specs.Header.{judge_field, wanted_of, count_of}
+use Rattle.report.specs.Header.{heeding, judge_field, wanted_of, count_of}
 use Rattle.uncut.specs.State.{State, Numbers, Records, Counting, Refused, Accepted, start, standing}
-use Rattle.uncut.specs.Step.{group_in, above_in, after_bad, with_number, field_grown, record_judged, record_grown, step, after}
+use Rattle.uncut.specs.Step.{group_in, above_in, after_bad, refused as by_refusal, with_number, field_grown, record_judged, record_grown, step, after}
 use Rattle.uncut.specs.Cutting.{closed, taking}
 use Rattle.uncut.proofs.All.{moves, stands-closed, closed-takes}
 use Rattle.pieces.specs.Record.{state_of, words_of}
@@ -55,13 +56,13 @@ module _ (p : Profile) where
       wanted ms true = tt
       wanted ms false = tt
 
-      judged : (v j : ℕ) (b : Bool) → Unsaid (pick b (with_number p (ns ++ (v ∷ []))) (Refused j))
-      judged v j true = wanted (ns ++ (v ∷ [])) (leb (wanted_of p (ns ++ (v ∷ []))) (length (ns ++ (v ∷ []))))
-      judged v j false = tt
+      judged : (v : ℕ) (x : Result Unit Refusal) → Unsaid (heeding x by_refusal (with_number p (ns ++ (v ∷ []))))
+      judged v (Ok u) = wanted (ns ++ (v ∷ [])) (leb (wanted_of p (ns ++ (v ∷ []))) (length (ns ++ (v ∷ []))))
+      judged v (Err refusal) = tt
 
-      go : (q : Number) → Unsaid (formed q (Numbers ns held) (λ v next b. pick (eqb (judge_field p ns v b) 0) (with_number p (ns ++ (v ∷ []))) (Refused (judge_field p ns v b))))
-      go (Value v next b) = judged v (judge_field p ns v b) (eqb (judge_field p ns v b) 0)
-      go Ends = tt
+      go : (q : Result Number Refusal) → Unsaid (formed q (Numbers ns held) (λ v next b. heeding (judge_field p ns v b) by_refusal (with_number p (ns ++ (v ∷ [])))))
+      go (Ok k) = judged k.value (judge_field p ns k.value k.shortest)
+      go (Err refusal) = tt
 
   unsaid-step : (st : State) (b : ℕ) → Unsaid st → Unsaid (step p st b)
   unfolding step record_grown record_judged

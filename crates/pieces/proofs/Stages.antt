@@ -46,6 +46,16 @@ module _ (stage left last above : ℕ) (ns held : List ℕ) where
         go true = refl
         go false = refl
 
+  -- no bad record came, and no refusal stands
+  pub standing-other : (stage ≡ 2 → ⊥) → (stage ≡ 3 → ⊥) → standing (state_as stage left last above ns held) ≡ 0
+  unfolding state_as
+  standing-other c d = rw (ne_eqb stage 2 c, ne_eqb stage 3 d) (go (eqb stage 0) (eqb stage 1))
+    where
+      go : (a b : Bool) → standing (pick a (Numbers ns held) (pick b (Records ns left last above held) (Accepted ns))) ≡ 0
+      go true b = refl
+      go false true = refl
+      go false false = refl
+
 -- the header is handed over where it is whole, and only there
 pub header-whole : (stage left last above : ℕ) (ns held : List ℕ) → (whole_at (state_as stage left last above ns held) ≡ 0 → ⊥) → header_at (state_as stage left last above ns held) ≡ header_of ns
 unfolding state_as

@@ -1,21 +1,24 @@
 -- What passes stays so: from a state that is fit every byte leads to one that is.
 -- Assumes nothing.
 use Prim.Native.Nat.{ℕ, zero, suc, ◌+◌, ◌-◌, ◌*◌, ◌≤◌, ◌<◌, zero-le}
-use mathlib.Core.Path.{◌≡◌, refl, sym}
+use mathlib.Core.Path.{◌≡◌, refl, sym, ap, subst, ◌∙◌}
 use mathlib.Core.Logic.{⊎_elim}
 use mathlib.Core.Bool.{Bool, true, false}
 use mathlib.Core.List.{List, [], ◌∷◌, ◌++◌}
 use native.Mathlib.Omega.{arith}
-use borrow.Author.Tests.{le-leb, leb-true, leb-false, eqb-true, eqb-false, ltb-true, ltb-false}
-use lib.Dec.{leb, eqb, ltb}
+use borrow.Author.Tests.{le-leb, leb-true, leb-false, ltb-true, ltb-false}
+use lib.Dec.{leb, ltb}
 use lib.ListN.{length, length-append}
 use lib.Seq.{take_all}
+use Rattle.std.specs.Prelude.{Result, Ok, Err}
 use Rattle.wire.specs.Bytes.{pick, Octets}
 use Rattle.wire.specs.Fields.{formed}
 use Rattle.wire.specs.Numbers.{limit, all_small, read_number}
 use Rattle.wire.specs.Exactly.{OneOf}
 use Rattle.wire.specs.declared.Number.{Number}
-use Rattle.wire.specs.declared.Number.TheVariants.{Value, Ends}
+use Rattle.wire.specs.Refusals.{number_of, refusal_number}
+use Rattle.wire.specs.declared.Refusal.{Refusal}
+use Rattle.wire.specs.declared.Refusal.TheVariants.{LongerForm}
 use Rattle.wire.proofs.Reading.{number-ends}
 use Rattle.wire.proofs.Accepted.{accepted-small}
 use Rattle.wire.proofs.Small.{all_small_lem}
@@ -25,11 +28,12 @@ use Rattle.entries.specs.declared.Profile.{Profile}
 use Rattle.entries.specs.declared.Profile.TheVariants.{One, Two}
 use Rattle.entries.specs.declared.Entry.{Entry}
 use Rattle.entries.proofs.Verdicts.{Verdict, short, wrong, right, verdict}
-use Rattle.report.specs.Header.{judge, judge_field, fault_after, wanted_of, count_of}
+use Rattle.report.specs.Header.{heeding, judge, judge_field, fault_after, wanted_of, count_of}
 use Rattle.report.proofs.Following.{wanted-most, wanted-last, fault-last}
+use Rattle.report.proofs.Heeding.{number-some, number-refused}
 use Rattle.report.proofs.Places.{place-judged}
 use Rattle.uncut.specs.State.{State, Numbers, Records, Counting, Refused, Accepted, start, at_end}
-use Rattle.uncut.specs.Step.{group_in, above_in, after_bad, with_number, field_grown, record_judged, record_grown, step, after}
+use Rattle.uncut.specs.Step.{group_in, above_in, after_bad, refused, with_number, field_grown, record_judged, record_grown, step, after}
 use Rattle.pieces.specs.Fitness.{can_stand, largest_group, fit}
 use Rattle.pieces.specs.Exactly.{NumbersObey, HeaderObeys, RowsObey}
 use Rattle.pieces.specs.Kept.{Kept}
@@ -61,18 +65,18 @@ octets-none i = omega arith
 
 module _ (p : Profile) where
   -- the refusal that a number brings can stand
-  judged-stands : (ns : List ℕ) (v : ℕ) (c : Bool) → (judge_field p ns v c ≡ 0 → ⊥) → can_stand (judge_field p ns v c) ≡ true
-  judged-stands ns v false n = refl
-  judged-stands ns v true n = go (judge p ns v) n (place-judged p ns v).others
+  judged-stands : (ns : List ℕ) (v : ℕ) (c : Bool) (refusal : Refusal) → judge_field p ns v c ≡ Err refusal → can_stand (number_of refusal) ≡ true
+  judged-stands ns v false refusal e = let q : LongerForm ≡ refusal = cc in subst (λ (r : Refusal). can_stand (number_of r) ≡ true) q refl
+  judged-stands ns v true refusal e = go (number_of refusal) (number-some refusal) (subst (λ (n : ℕ). OneOf n (0 ∷ 10 ∷ 11 ∷ [])) (ap refusal_number e) (place-judged p ns v).others)
     where
       go : (j : ℕ) → (j ≡ 0 → ⊥) → OneOf j (0 ∷ 10 ∷ 11 ∷ []) → can_stand j ≡ true
       go j z o = ⊎_elim (λ e. absurd (z e)) (⊎_elim (λ e. rw e refl) (⊎_elim (λ e. rw e refl) (λ e. absurd e))) o
 
   -- ---- the header
 
-  judged-good : (ns : List ℕ) (v : ℕ) (c : Bool) → judge_field p ns v c ≡ 0 → judge p ns v ≡ 0
+  judged-good : (ns : List ℕ) (v : ℕ) (c : Bool) → judge_field p ns v c ≡ Ok tt → judge p ns v ≡ Ok tt
   judged-good ns v true e = e
-  judged-good ns v false e = absurd (omega arith)
+  judged-good ns v false e = absurd (cc)
 
   kept-number : (ns : List ℕ) → NumbersObey p ns → length ns ≤ wanted_of p ns → Kept p (with_number p ns)
   unfolding with_number
@@ -93,17 +97,17 @@ module _ (p : Profile) where
   unfolding field_grown fit
   kept_field ns held f w o = go (read_number held 0) refl
     where
-      judged : (v : ℕ) (c : Bool) → v ≤ limit → (b : Bool) → eqb (judge_field p ns v c) 0 ≡ b → Kept p (pick b (with_number p (ns ++ (v ∷ []))) (Refused (judge_field p ns v c)))
-      judged v c h true e =
-          let j : judge p ns v ≡ 0 = judged-good ns v c (eqb-true (judge_field p ns v c) 0 e) in
+      judged : (v : ℕ) (c : Bool) → v ≤ limit → (x : Result Unit Refusal) → judge_field p ns v c ≡ x → Kept p (heeding x refused (with_number p (ns ++ (v ∷ []))))
+      judged v c h (Ok u) e =
+          let j : judge p ns v ≡ Ok tt = judged-good ns v c e in
           let l : length (ns ++ (v ∷ [])) ≡ length ns + 1 = length-append ns (v ∷ []) in
           kept-number (ns ++ (v ∷ [])) ((all_small_lem (ns ++ (v ∷ []))).0 (small-last ns v ((all_small_lem ns).1 f.0) h), fault-last p [] ns v f.1 j) (omega (arith, wanted-last p ns v))
-      judged v c h false e = record { fits = judged-stands ns v c (eqb-false (judge_field p ns v c) 0 e); few = zero-le; bytes = octets-none }
+      judged v c h (Err refusal) e = record { fits = judged-stands ns v c refusal e; few = zero-le; bytes = octets-none }
 
-      go : (q : Number) → read_number held 0 ≡ q
-          → Kept p (formed q (Numbers ns held) (λ v next b. pick (eqb (judge_field p ns v b) 0) (with_number p (ns ++ (v ∷ []))) (Refused (judge_field p ns v b))))
-      go (Value v next c) e = judged v c (accepted-small held 0 v next o e) (eqb (judge_field p ns v c) 0) refl
-      go Ends e = record { fits = fact-fit p (Numbers ns held) (f, (w, e)); few = omega (arith, wanted-most p ns); bytes = o }
+      go : (q : Result Number Refusal) → read_number held 0 ≡ q
+          → Kept p (formed q (Numbers ns held) (λ v next b. heeding (judge_field p ns v b) refused (with_number p (ns ++ (v ∷ [])))))
+      go (Ok k) e = judged k.value k.shortest (accepted-small held 0 k.value k.next o e) (judge_field p ns k.value k.shortest) refl
+      go (Err refusal) e = record { fits = fact-fit p (Numbers ns held) (f, (w, e ∙ ap Err (number-refused held 0 e))); few = omega (arith, wanted-most p ns); bytes = o }
 
   -- ---- the records
 
@@ -117,7 +121,7 @@ module _ (p : Profile) where
       grouped One h = zero-le
       grouped Two h = h
 
-      go : (x : Entry) → Verdict p r x → follows last above x (λ group next. true) ≡ true → (group_in x ≤ largest_group p) × ((0 < above_in x) × (above_in x ≤ limit + 1))
+      go : (x : Result Entry Refusal) → Verdict p r x → follows last above x (λ group next. true) ≡ true → (group_in x ≤ largest_group p) × ((0 < above_in x) × (above_in x ≤ limit + 1))
       go x (short h) e = no_true e
       go x (wrong h n) e = no_true e
       go x (right h y) e = (grouped p y.group, (omega arith, omega (arith, y.object)))

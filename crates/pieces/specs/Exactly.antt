@@ -1,8 +1,10 @@
 -- The rows of the refusal table for the reader in pieces: each number is given exactly when its row says, and no other number is.
-use Rattle.std.specs.Prelude.{ℕ, zero, suc, ◌+◌, ◌-◌, ◌*◌, ◌≤◌, ◌<◌, ◌≡◌, ◌↔◌, ◌⊎◌, Bool, true, List, [], ◌∷◌, ◌++◌, length, get_or}
+use Rattle.std.specs.Prelude.{ℕ, zero, suc, ◌+◌, ◌-◌, ◌*◌, ◌≤◌, ◌<◌, ◌≡◌, ◌↔◌, ◌⊎◌, Bool, true, Ok, Err, List, [], ◌∷◌, ◌++◌, length, get_or}
 use Rattle.wire.specs.Numbers.{limit, read_number}
 use Rattle.wire.specs.Exactly.{OneOf, Small}
-use Rattle.wire.specs.declared.Number.TheVariants.{Value, Ends}
+use Rattle.wire.specs.Fields.{found}
+use Rattle.wire.specs.Refusals.{refusal_number}
+use Rattle.wire.specs.declared.Refusal.TheVariants.{Ends}
 use Rattle.entries.specs.Profiles.{record_size, number_of, Other}
 use Rattle.entries.specs.declared.Profile.{Profile}
 use Rattle.report.specs.Limits.{most_numbers}
@@ -17,7 +19,7 @@ use Rattle.pieces.specs.Calls.{open_refusal, taken_of, take_answer, end_answer}
 
 -- each obeys 5, and none brings a fault
 abbrev pub NumbersObey : Profile → List ℕ → Type 0
-NumbersObey p ns = Small ns × (first_fault p ns ≡ 0)
+NumbersObey p ns = Small ns × (first_fault p ns ≡ Ok tt)
 
 -- and they are a whole header's
 abbrev pub HeaderObeys : Profile → List ℕ → Type 0
@@ -32,7 +34,7 @@ pub record RowsObey (p : Profile) (count left last above carried : ℕ) : Type 0
   pub over : left ≡ 0 → carried ≡ 0
 
 abbrev pub Fit : Profile → State → Type 0
-Fit p (Numbers ns held) = NumbersObey p ns × ((length ns < wanted_of p ns) × (read_number held 0 ≡ Ends))
+Fit p (Numbers ns held) = NumbersObey p ns × ((length ns < wanted_of p ns) × (read_number held 0 ≡ Err Ends))
 Fit p (Records ns n last above held) = HeaderObeys p ns × RowsObey p (count_of ns) n last above (length held)
 Fit p (Counting ns n) = HeaderObeys p ns × ((0 < count_of ns) × (n ≤ record_size p * (count_of ns - 1)))
 Fit p (Refused n) = OneOf n (2 ∷ 10 ∷ 11 ∷ 12 ∷ 13 ∷ 15 ∷ [])
@@ -68,8 +70,8 @@ pub record Faulty (p : Profile) (st : State) (s : List ℕ) (n : ℕ) : Type 0 w
   pub shortest : Bool
   pub cut : s ≡ front ++ (b ∷ rest)
   pub before : after p st front ≡ Numbers ns held
-  pub whole : read_number (held ++ (b ∷ [])) 0 ≡ Value v next shortest
-  pub brings : judge_field p ns v shortest ≡ n
+  pub whole : read_number (held ++ (b ∷ [])) 0 ≡ found v next shortest
+  pub brings : refusal_number (judge_field p ns v shortest) ≡ n
 
 -- 13: a byte comes when all records have come
 pub record TooMany (p : Profile) (st : State) (s : List ℕ) : Type 0 where

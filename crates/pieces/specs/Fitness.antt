@@ -1,9 +1,7 @@
 -- "1 for a record whose parts disagree or break 5": which records are served.
-use Rattle.std.specs.Prelude.{ℕ, ◌+◌, ◌-◌, ◌*◌, Bool, true, false, ◌&&◌, List, eqb, leb, ltb, length, get_or}
+use Rattle.std.specs.Prelude.{ℕ, ◌+◌, ◌-◌, ◌*◌, Bool, true, false, ◌&&◌, List, is_ok, is_err, eqb, leb, ltb, length, get_or}
 use Rattle.wire.specs.Bytes.{pick}
 use Rattle.wire.specs.Numbers.{limit, all_small, read_number}
-use Rattle.wire.specs.declared.Number.{Number}
-use Rattle.wire.specs.declared.Number.TheVariants.{Value, Ends}
 use Rattle.entries.specs.Profiles.{record_size, of_profile}
 use Rattle.entries.specs.declared.Profile.{Profile}
 use Rattle.entries.specs.declared.Profile.TheVariants.{One, Two}
@@ -14,20 +12,15 @@ use Rattle.pieces.specs.Record.{Stand, most_carried, stand_at, state_in}
 
 -- numbers of a header: none breaks 5, and none brings a fault
 unfoldable pub numbers_fit : Profile → List ℕ → Bool
-numbers_fit p ns = all_small ns && eqb (first_fault p ns) 0
-
--- the bytes are no whole field
-abbrev pub is_ends : Number → Bool
-is_ends (Value v next shortest) = false
-is_ends Ends = true
+numbers_fit p ns = all_small ns && is_ok (first_fault p ns)
 
 -- the refusals that stand: those of 01 and No. 5 that a report brings
 abbrev pub can_stand : ℕ → Bool
 can_stand n = pick (eqb n 2) true (pick (eqb n 10) true (pick (eqb n 11) true (pick (eqb n 12) true (pick (eqb n 13) true (eqb n 15)))))
 
--- a further number is wanted, and the field that is carried is unfinished
+-- a further number is wanted, and the bytes that are carried are no whole field
 unfoldable pub field_fit : Profile → List ℕ → List ℕ → Bool
-field_fit p ns held = ltb (length ns) (wanted_of p ns) && is_ends (read_number held 0)
+field_fit p ns held = ltb (length ns) (wanted_of p ns) && is_err (read_number held 0)
 
 -- they are all that their header has
 abbrev pub is_whole : Profile → List ℕ → Bool

@@ -1,8 +1,9 @@
 -- The next field behind what is carried, and the key of a record.
-use Rattle.std.specs.Prelude.{ℕ, ◌+◌, ◌-◌, Bool, false, List, eqb, leb}
+use Rattle.std.specs.Prelude.{ℕ, ◌+◌, ◌-◌, Bool, false, List, Result, Ok, Err, eqb, leb}
 use Rattle.wire.specs.Bytes.{pick}
+use Rattle.wire.specs.Fields.{found}
 use Rattle.wire.specs.declared.Number.{Number}
-use Rattle.wire.specs.declared.Number.TheVariants.{Value, Ends}
+use Rattle.wire.specs.declared.Refusal.{Refusal}
 use Rattle.entries.specs.Entries.{entry_of, follows_or}
 use Rattle.entries.specs.declared.Profile.{Profile}
 use Rattle.entries.specs.declared.Entry.{Entry}
@@ -53,9 +54,9 @@ abbrev pub still : Stand → Moved
 still s = record { now = s; taken = 0; records = 0 }
 
 -- a number whose first bytes are carried ends so far behind the place at
-abbrev pub shifted : ℕ → ℕ → Number → Number
-shifted carried at (Value v next shortest) = Value v (at + (next - carried)) shortest
-shifted carried at Ends = Ends
+abbrev pub shifted : ℕ → ℕ → Result Number Refusal → Result Number Refusal
+shifted carried at (Ok n) = found n.value (at + (n.next - carried)) n.shortest
+shifted carried at (Err refusal) = Err refusal
 
 -- the group of a good record and one past its object number
 pub data Key : Type 0 where
@@ -63,7 +64,7 @@ pub data Key : Type 0 where
   Bad : Key
 
 -- what a record leaves for the next one, if it is good after the one before
-abbrev pub key_in : ℕ → ℕ → Entry → Key
+abbrev pub key_in : ℕ → ℕ → Result Entry Refusal → Key
 key_in last above e = follows_or last above e Good Bad
 
 unfoldable pub key_of : Profile → ℕ → ℕ → List ℕ → Key

@@ -1,8 +1,8 @@
 -- What some bytes of a part do, from one place in a call to the next: so a call is made of few steps, each by whole fields and records.
-use Rattle.std.specs.Prelude.{ℕ, zero, suc, ◌+◌, ◌-◌, ◌*◌, ◌≤◌, ◌<◌, ◌≡◌, ◌⊎◌, List, [], length, get_or, take, drop}
+use Rattle.std.specs.Prelude.{ℕ, zero, suc, ◌+◌, ◌-◌, ◌*◌, ◌≤◌, ◌<◌, ◌≡◌, ◌⊎◌, Err, List, [], length, get_or, take, drop}
 use Rattle.wire.specs.Bytes.{splice}
 use Rattle.wire.specs.Numbers.{read_number}
-use Rattle.wire.specs.declared.Number.TheVariants.{Ends}
+use Rattle.wire.specs.declared.Refusal.TheVariants.{Ends}
 use Rattle.entries.specs.Limits.{most_entries}
 use Rattle.entries.specs.Profiles.{record_size, most_metrics}
 use Rattle.entries.specs.declared.Profile.{Profile}
@@ -16,7 +16,7 @@ use Rattle.pieces.specs.Record.{Stand, Moved, most_carried, state_in}
 
 -- what holds of a state that is served: what is carried is unfinished
 abbrev pub Ready : Profile → State → Type 0
-Ready p (Numbers ns held) = ((length ns < wanted_of p ns) × (read_number held 0 ≡ Ends)) × (get_or ns at_metrics 0 ≤ most_metrics p)
+Ready p (Numbers ns held) = ((length ns < wanted_of p ns) × (read_number held 0 ≡ Err Ends)) × (get_or ns at_metrics 0 ≤ most_metrics p)
 Ready p (Records ns n last above held) = (length held < record_size p) × (n ≤ most_entries)
 Ready p (Counting ns n) = Unit
 Ready p (Refused n) = Unit

@@ -8,21 +8,19 @@ use crate::fitness::consistent;
 use crate::header::header_in;
 use crate::rest::taken_in;
 use crate::words::{come, loaded, store};
-use crate::{ACCEPTED, AT_PROFILE, Marks, REFUSED, Taken, WORDS};
+use crate::{ACCEPTED, AT_PROFILE, COUNTING, Marks, NUMBERS, RECORDS, REFUSED, Taken, WORDS};
 use entries::{Profile, record_size};
 use report::{MOST_NUMBERS, Report, empty_header};
+use wire::Refusal;
 
 // The profile that a word names; a word that names none is judged before.
 fn profile_of(word: u64) -> Profile
     ensures { result ≡ profile_of word }
 {
-    if word == 2 {
-        return Profile::Two;
-    }
-    Profile::One
+    Profile::try_from(word).unwrap_or(Profile::One)
 }
 
-// A refusal and the empty header.
+// A refusal and the empty header, by the refusal's number, which a word of the C interface may hold.
 fn refused(refusal: u64) -> Report
     ensures { result ≡ refused_report refusal }
 {
@@ -30,22 +28,13 @@ fn refused(refusal: u64) -> Report
     Report { refusal, header }
 }
 
-// The refusal that stands, 0 for none.
+// The refusal that stands, 0 for none, as the answer to C has it.
 fn standing_at(s: Marks) -> u64
     ensures { (w : List ℕ) → result ≡ standing (state_in (stand_in s w)) }
 {
-    let stage = s.stage;
-    let left = s.left;
-    match stage {
-        0 => 0,
-        1 => 0,
-        2 => {
-            if left == 0 {
-                return 12;
-            }
-            0
-        }
-        3 => left,
+    match s.stage {
+        COUNTING if s.left == 0 => Refusal::BrokenEntry.number(),
+        REFUSED => s.left,
         _ => 0,
     }
 }
@@ -54,16 +43,10 @@ fn standing_at(s: Marks) -> u64
 fn whole_at(s: Marks) -> u64
     ensures { (w : List ℕ) → result ≡ whole_at (state_in (stand_in s w)) }
 {
-    let stage = s.stage;
-    match stage {
-        0 => 0,
-        2 => {
-            if s.left == 0 {
-                return 0;
-            }
-            1
-        }
-        3 => 0,
+    match s.stage {
+        NUMBERS => 0,
+        COUNTING if s.left == 0 => 0,
+        REFUSED => 0,
         _ => 1,
     }
 }
@@ -95,7 +78,7 @@ fn nothing(refusal: u64) -> Taken
     }
 }
 
-// What a call answers, its header read from the words that say where the report stands.
+// What a call answers, its header read from the words that say where the report stands; out of report_at it would be copied once more.
 fn answer(s: Marks, state: &[u64; WORDS], taken: usize, records: usize) -> Taken
     requires { s.count ≤ 25 }
     ensures { (p : Profile) (w : List ℕ) → state.now ≡ words_of p (state_in (stand_in s w)) → result ≡ answer_of (state_in (stand_in s w)) taken records }
@@ -130,20 +113,20 @@ fn ended(s: Marks) -> Marks
     let stage = s.stage;
     let left = s.left;
     next.stage = REFUSED;
-    next.left = 2;
+    next.left = Refusal::Ends.number();
     match stage {
-        1 => {
+        RECORDS => {
             if left == 0 {
                 next.stage = ACCEPTED;
             }
         }
-        2 => {
+        COUNTING => {
             if left == 0 {
-                next.left = 12;
+                next.left = Refusal::BrokenEntry.number();
             }
         }
-        0 => {}
-        3 => {
+        NUMBERS => {}
+        REFUSED => {
             next.left = left;
         }
         _ => {
@@ -153,7 +136,7 @@ fn ended(s: Marks) -> Marks
     next
 }
 
-// The words before the first byte of a report.
+// The words before the first byte of a report; 0 for C.
 fn started(state: &mut [u64; WORDS], profile: u64) -> u64
     ensures { (result ≡ 0) × (state.new ≡ profile ∷ body_of start) }
 {
@@ -167,10 +150,9 @@ fn started(state: &mut [u64; WORDS], profile: u64) -> u64
 pub fn open(state: &mut [u64; WORDS], profile: u64) -> u64
     ensures { (result ≡ open_refusal profile) × (state.new ≡ open_after state.old profile) }
 {
-    match profile {
-        1 => started(state, 1),
-        2 => started(state, 2),
-        _ => 18,
+    match Profile::try_from(profile) {
+        Ok(_) => started(state, profile),
+        Err(refusal) => refusal.number(),
     }
 }
 
@@ -180,12 +162,12 @@ pub fn take(state: &mut [u64; WORDS], part: &[u8], out: &mut [u8]) -> Taken
     ensures { (result ≡ take_answer state.old part.now (length out.old)) × ((state.new ≡ take_after state.old part.now (length out.old)) × (out.new ≡ take_bytes state.old part.now out.old)) }
 {
     if !consistent(state) {
-        return nothing(1);
+        return nothing(Refusal::Inconsistent.number());
     }
     let from = loaded(state);
     let profile = profile_of(state[AT_PROFILE]);
     if out.len() < record_size(profile) {
-        return nothing(9);
+        return nothing(Refusal::NoRoom.number());
     }
     let stands = standing_at(from);
     if stands != 0 {
@@ -202,7 +184,7 @@ pub fn end(state: &mut [u64; WORDS]) -> Report
     ensures { (result ≡ end_answer state.old) × (state.new ≡ end_after state.old) }
 {
     if !consistent(state) {
-        return refused(1);
+        return refused(Refusal::Inconsistent.number());
     }
     let from = loaded(state);
     let stands = standing_at(from);

@@ -1,5 +1,6 @@
 // The header's numbers, each read as soon as it is whole: where it stands, or behind the bytes that are carried.
-ghost use Rattle.std.specs.Prelude.{◌≡◌, List, ◌++◌, ℕ, ◌+◌, ◌≤◌, min, length, take, drop};
+ghost use Rattle.std.specs.Prelude.{◌≡◌, List, ◌++◌, ℕ, ◌+◌, ◌≤◌, length, take, drop, Err};
+ghost use Rattle.wire.specs.declared.Refusal.TheVariants.{Ends};
 ghost use Rattle.wire.specs.Numbers.{read_number};
 ghost use Rattle.pieces.specs.Reading.{shifted, walked_to, still_at};
 ghost use Rattle.pieces.specs.Record.{held_in, stand_in, state_in, moved_in};
@@ -9,7 +10,7 @@ use crate::words::{come, held_in, keep};
 use crate::{AT_NUMBERS, CARRIED, Marks, NUMBERS, RECORDS, REFUSED, WORDS, Walked};
 use entries::Profile;
 use report::{judge_field, wanted};
-use wire::Number;
+use wire::{Number, Refusal};
 
 // The longest field is so many bytes long.
 const LONGEST: usize = 8;
@@ -20,46 +21,33 @@ pub(crate) fn joined(held: [u8; CARRIED], carried: usize, more: &[u8]) -> [u8; C
     ensures { (length result ≡ 24) × (take (carried + length more.now) result ≡ take carried held ++ more.now) }
 {
     let mut next = held;
-    let mut i: usize = 0;
-    while i < more.len() {
-        next[carried + i] = more[i];
-        i += 1;
-    }
+    let end = carried + more.len();
+    next[carried..end].copy_from_slice(more);
     next
 }
 
-// The smaller of the two.
-pub(crate) fn smaller_of(a: usize, b: usize) -> usize
-    ensures { result ≡ min a b }
-{
-    if a <= b { a } else { b }
-}
-
 // The field that begins with the bytes carried and goes on in the part.
-fn next_field(state: &[u64; WORDS], carried: usize, part: &[u8]) -> Number
-    requires { (carried ≤ 8) × (read_number (take carried (held_in state.now)) 0 ≡ Number.Ends) }
+fn next_field(state: &[u64; WORDS], carried: usize, part: &[u8]) -> Result<Number, Refusal>
+    requires { (carried ≤ 8) × (read_number (take carried (held_in state.now)) 0 ≡ Err Ends) }
     ensures { result ≡ shifted carried 0 (read_number (take carried (held_in state.now) ++ part.now) 0) }
 {
     if carried == 0 {
         return wire::read_number(part, 0);
     }
-    let more = smaller_of(LONGEST - carried, part.len());
+    let more = (LONGEST - carried).min(part.len());
     let held = held_in(state, carried);
     let field = joined(held, carried, &part[..more]);
     let length = carried + more;
-    let Number::Value {
+    let Number {
         value,
         next,
         shortest,
-    } = wire::read_number(&field[..length], 0)
-    else {
-        return Number::Ends;
-    };
-    Number::Value {
+    } = wire::read_number(&field[..length], 0)?;
+    Ok(Number {
         value,
         next: next - carried,
         shortest,
-    }
+    })
 }
 
 // A place where the header's numbers lead to.
@@ -97,19 +85,20 @@ pub(crate) fn take_numbers(
     let mut at: usize = 0;
     let mut field = next_field(state, carried, part);
     while at < part.len() {
-        let Number::Value {
-            value,
-            next,
-            shortest,
-        } = field
+        let Ok(
+            Number {
+                value,
+                next,
+                shortest,
+            },
+        ) = field
         else {
             let end = carried + (part.len() - at);
             keep(state, carried, &part[at..]);
             return walked(NUMBERS, 0, count, end, part.len());
         };
-        let refusal = judge_field(profile, come(state, count), value, shortest);
-        if refusal != 0 {
-            return walked(REFUSED, refusal, count, carried, next);
+        if let Err(refusal) = judge_field(profile, come(state, count), value, shortest) {
+            return walked(REFUSED, refusal.number(), count, carried, next);
         }
         state[AT_NUMBERS + count] = value;
         count += 1;

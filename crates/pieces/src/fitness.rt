@@ -6,46 +6,30 @@ ghost use Rattle.pieces.specs.Record.{stand_in, stand_at};
 ghost use Rattle.pieces.specs.Fitness.{numbers_fit, field_fit, is_whole, largest_group, place_fit, rows_fit, counted_fit, can_stand, stand_fit, consistent};
 
 use crate::words::{come, held_in, loaded};
-use crate::{AT_PROFILE, CARRIED, Marks, REFUSED, WORDS};
+use crate::{ACCEPTED, AT_PROFILE, CARRIED, COUNTING, Marks, NUMBERS, RECORDS, REFUSED, WORDS};
 use entries::{Profile, record_size};
 use report::{MOST_NUMBERS, first_fault, last_of, wanted};
-use wire::{LARGEST, Number};
+use wire::LARGEST;
 
 // Whether the numbers obey 5.
 fn all_small(numbers: &[u64]) -> bool
     ensures { result ≡ all_small numbers.now }
 {
-    let mut i: usize = 0;
-    while i < numbers.len() {
-        if LARGEST < numbers[i] {
-            return false;
-        }
-        i += 1;
-    }
-    true
+    numbers.iter().all(|v| *v <= LARGEST)
 }
 
 // Whether the numbers obey 5 and bring no fault.
 fn numbers_fit(profile: Profile, numbers: &[u64]) -> bool
     ensures { result ≡ numbers_fit profile numbers.now }
 {
-    if !all_small(numbers) {
-        return false;
-    }
-    first_fault(profile, numbers) == 0
+    all_small(numbers) && first_fault(profile, numbers).is_ok()
 }
 
 // Whether a further number is wanted and the bytes are no whole field.
 fn field_fit(profile: Profile, numbers: &[u64], held: &[u8]) -> bool
     ensures { result ≡ field_fit profile numbers.now held.now }
 {
-    if wanted(profile, numbers) <= numbers.len() {
-        return false;
-    }
-    let Number::Ends = wire::read_number(held, 0) else {
-        return false;
-    };
-    true
+    numbers.len() < wanted(profile, numbers) && wire::read_number(held, 0).is_err()
 }
 
 // Whether the numbers are all that their header has.
@@ -66,6 +50,7 @@ fn largest_group(profile: Profile) -> u64
 }
 
 // Whether the place of the record before is one. There is none before the first record, while as many are left as are counted.
+// The tests stand one by one, as one expression is no plainer.
 fn place_fit(profile: Profile, count: u64, left: u64, last: u64, above: u64) -> bool
     ensures { result ≡ place_fit profile count left last above }
 {
@@ -130,15 +115,7 @@ fn counted_fit(profile: Profile, numbers: &[u64], left: u64) -> bool
 fn can_stand(refusal: u64) -> bool
     ensures { result ≡ can_stand refusal }
 {
-    match refusal {
-        2 => true,
-        10 => true,
-        11 => true,
-        12 => true,
-        13 => true,
-        15 => true,
-        _ => false,
-    }
+    matches!(refusal, 2 | 10 | 11 | 12 | 13 | 15)
 }
 
 // Whether the marks, with the numbers and bytes that the words have, fit the profile.
@@ -161,11 +138,11 @@ fn stand_fit(profile: Profile, s: Marks, state: &[u64; WORDS]) -> bool
         return false;
     }
     match stage {
-        0 => {
+        NUMBERS => {
             let held = held_in(state, carried);
             field_fit(profile, come(state, count), &held[..carried])
         }
-        1 => rows_fit(
+        RECORDS => rows_fit(
             profile,
             come(state, count),
             s.left,
@@ -173,8 +150,8 @@ fn stand_fit(profile: Profile, s: Marks, state: &[u64; WORDS]) -> bool
             s.above,
             carried,
         ),
-        2 => counted_fit(profile, come(state, count), s.left),
-        4 => is_whole(profile, come(state, count)),
+        COUNTING => counted_fit(profile, come(state, count), s.left),
+        ACCEPTED => is_whole(profile, come(state, count)),
         _ => false,
     }
 }
@@ -193,9 +170,8 @@ pub(crate) fn consistent(state: &[u64; WORDS]) -> bool
     ensures { result ≡ consistent state.now }
 {
     let profile = state[AT_PROFILE];
-    match profile {
-        1 => words_fit(Profile::One, state),
-        2 => words_fit(Profile::Two, state),
-        _ => false,
+    match Profile::try_from(profile) {
+        Ok(known) => words_fit(known, state),
+        Err(_) => false,
     }
 }

@@ -1,22 +1,14 @@
 // The header, read where its numbers stand.
-ghost use Rattle.std.specs.Prelude.{◌≡◌, List, ℕ, ◌-◌, ◌≤◌, length};
+ghost use Rattle.std.specs.Prelude.{◌≡◌, List, ℕ, ◌≤◌, length};
 ghost use Rattle.report.specs.Header.{header_of};
 ghost use Rattle.report.specs.Limits.{most_numbers};
 ghost use Rattle.pieces.specs.Record.{padded};
 
-use crate::fields::smaller_of;
 use report::layout::{
     AT_AVERAGE, AT_INTERVAL, AT_LATE, AT_LOST, AT_METRICS, AT_RECEIVED, AT_TIMESTAMP, AT_TOTAL,
     FIXED,
 };
 use report::{Header, METRIC_PLACES, average};
-
-// The place of the last of so many numbers; of none the first place, which is 0 then.
-fn last_place(count: usize) -> usize
-    ensures { result ≡ count - 1 }
-{
-    if count == 0 { 0 } else { count - 1 }
-}
 
 // The header whose numbers, so many of them, stand at the first of all places; every place behind them is 0, and so none is tested.
 pub(crate) fn header_in(places: &[u64], count: usize) -> Header
@@ -24,16 +16,15 @@ pub(crate) fn header_in(places: &[u64], count: usize) -> Header
     ensures { (ns : List ℕ) → length ns ≡ count → places.now ≡ padded most_numbers ns → result ≡ header_of ns }
 {
     let metrics = places[AT_METRICS];
-    let shown = smaller_of(metrics as usize, METRIC_PLACES);
+    let shown = (metrics as usize).min(METRIC_PLACES);
     let mut kinds = [0u64; METRIC_PLACES];
     let mut values = [0u64; METRIC_PLACES];
-    let mut i: usize = 0;
-    while i < shown {
+    for i in 0..shown {
         kinds[i] = places[FIXED + 2 * i];
         values[i] = places[FIXED + 2 * i + 1];
-        i += 1;
     }
-    let last = last_place(count);
+    // Of no numbers the first place, which is 0 then.
+    let last = count.saturating_sub(1);
     let mean = average(places[AT_AVERAGE]);
     Header {
         timestamp: places[AT_TIMESTAMP],

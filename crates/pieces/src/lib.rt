@@ -63,7 +63,7 @@ const REFUSED: u64 = 3;
 // The end was said, and the report was accepted.
 const ACCEPTED: u64 = 4;
 
-// What a call answers.
+// What a call answers: the record of the C interface, and so no Result.
 #[repr(C)]
 #[derive(Clone, Copy)]
 pub struct Taken {
@@ -80,7 +80,8 @@ pub struct Taken {
 }
 
 // Where a report stands, by the names of the words. The header's numbers and the bytes that are carried stay in the words that were lent:
-// handed on, they would be copied.
+// handed on, they would be copied. Stages and refusals are numbers, as the words of the C interface hold them. Profile, marks and words go
+// side by side from step to step, since some steps write the words and others only read them.
 #[derive(Clone, Copy)]
 struct Marks {
     stage: u64,

@@ -5,22 +5,10 @@ ghost use Rattle.pieces.specs.Reading.{counted_at, completes_of, row_here};
 ghost use Rattle.pieces.specs.Record.{stand_in, state_in, moved_in};
 ghost use Rattle.pieces.specs.Serving.{Sits, Served, Past, Begun, Short};
 
-use crate::fields::{as_it_was, joined, smaller_of};
+use crate::fields::{as_it_was, joined};
 use crate::words::held_in;
 use crate::{COUNTING, Marks, RECORDS, WORDS, Walked};
 use entries::{Profile, good_run, record_size, records_in};
-
-// Copies from over the whole of to, which is as long.
-fn copy(to: &mut [u8], from: &[u8])
-    requires { length to.old ≡ length from.now }
-    ensures { to.new ≡ from.now }
-{
-    let mut i: usize = 0;
-    while i < from.len() {
-        to[i] = from[i];
-        i += 1;
-    }
-}
 
 // A bad record came: the bytes of those still to come are counted on.
 fn after_bad(profile: Profile, from: Marks, left: u64, taken: usize, records: usize) -> Walked
@@ -42,16 +30,7 @@ fn completes(stage: u64, left: u64, carried: usize, size: usize, bytes: usize) -
     requires { (carried ≤ 24) × (bytes < 9223372036854775808) }
     ensures { result ≡ completes_of stage left carried size bytes }
 {
-    if stage != RECORDS {
-        return false;
-    }
-    if left == 0 {
-        return false;
-    }
-    if carried == 0 {
-        return false;
-    }
-    size <= carried + bytes
+    stage == RECORDS && left != 0 && carried != 0 && size <= carried + bytes
 }
 
 // Makes the record that is carried whole, if the part has the bytes.
@@ -79,7 +58,7 @@ pub(crate) fn complete(
     if run.good == 0 {
         return after_bad(profile, from, left - 1, need, 0);
     }
-    copy(&mut out[..size], &record[..size]);
+    out[..size].copy_from_slice(&record[..size]);
     let mut now = from;
     now.left = left - 1;
     now.last = run.last;
@@ -96,10 +75,7 @@ pub(crate) fn complete(
 fn row_here(stage: u64, carried: usize) -> bool
     ensures { result ≡ row_here stage carried }
 {
-    if stage != RECORDS {
-        return false;
-    }
-    carried == 0
+    stage == RECORDS && carried == 0
 }
 
 // Takes the records that lie whole in the part, as many as are to come and fit the buffer, up to the first bad one.
@@ -122,15 +98,12 @@ pub(crate) fn in_place(
     let left = from.left;
     let size = record_size(profile);
     let room = records_in(profile, out.len());
-    let n = smaller_of(
-        left as usize,
-        smaller_of(records_in(profile, part.len()), room),
-    );
+    let n = (left as usize).min(records_in(profile, part.len()).min(room));
     let bytes = size * n;
     let run = good_run(profile, from.last, from.above, &part[..bytes]);
     let good = run.good;
     let end = size * good;
-    copy(&mut out[..end], &part[..end]);
+    out[..end].copy_from_slice(&part[..end]);
     if good < n {
         return after_bad(profile, from, left - 1 - good as u64, end + size, good);
     }

@@ -5,11 +5,12 @@ ghost use Rattle.uncut.specs.Cutting.{taking};
 ghost use Rattle.pieces.specs.Record.{stand_in, state_in, moved_in};
 ghost use Rattle.pieces.specs.Serving.{Sits, Served, Past, Begun, Short};
 
-use crate::fields::{as_it_was, smaller_of, through_header};
+use crate::fields::{as_it_was, through_header};
 use crate::records::{complete, in_place};
 use crate::words::keep;
-use crate::{Marks, REFUSED, WORDS, Walked};
+use crate::{COUNTING, Marks, RECORDS, REFUSED, WORDS, Walked};
 use entries::{Profile, record_size};
+use wire::Refusal;
 
 // Records are coming: a byte behind the last one is 13, and the start of the next one is carried where the buffer has room for it.
 fn begin_record(
@@ -30,7 +31,7 @@ fn begin_record(
     let mut now = from;
     if left == 0 {
         now.stage = REFUSED;
-        now.left = 13;
+        now.left = Refusal::BytesRemain.number();
         return Walked {
             now,
             taken: 1,
@@ -56,7 +57,7 @@ fn count_on(profile: Profile, from: Marks, state: &[u64; WORDS], part: &[u8]) ->
     ensures { (((out : List ℕ) → Served profile (state_in (stand_in from state.now)) part.now out (moved_in result state.now) out) × ((room : ℕ) → taking profile room (state_in (stand_in result.now state.now)) (drop result.taken part.now) ≡ 0)) × (result.records ≡ 0) }
 {
     let left = from.left;
-    let bytes = smaller_of(left as usize, part.len());
+    let bytes = (left as usize).min(part.len());
     let mut now = from;
     now.left = left - bytes as u64;
     Walked {
@@ -79,8 +80,8 @@ fn finish(
 {
     let stage = from.stage;
     match stage {
-        1 => begin_record(profile, from, state, part, room),
-        2 => count_on(profile, from, state, part),
+        RECORDS => begin_record(profile, from, state, part, room),
+        COUNTING => count_on(profile, from, state, part),
         _ => as_it_was(from),
     }
 }

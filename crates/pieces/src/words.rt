@@ -5,7 +5,7 @@ ghost use Rattle.pieces.specs.Record.{numbers_in, held_in, marks_at, stand_in, s
 
 use crate::{
     ACCEPTED, AT_ABOVE, AT_CARRIED, AT_COUNT, AT_HELD, AT_LAST, AT_LEFT, AT_NUMBERS, AT_PROFILE,
-    AT_STAGE, CARRIED, Marks, WORDS,
+    AT_STAGE, CARRIED, COUNTING, Marks, NUMBERS, RECORDS, REFUSED, WORDS,
 };
 use entries::Profile;
 
@@ -33,10 +33,8 @@ pub(crate) fn held_in(state: &[u64; WORDS], carried: usize) -> [u8; CARRIED]
     ensures { (length result ≡ 24) × (take carried result ≡ take carried (held_in state.now)) }
 {
     let mut held = [0u8; CARRIED];
-    let mut i: usize = 0;
-    while i < carried {
+    for i in 0..carried {
         held[i] = (state[AT_HELD + i] % 256) as u8;
-        i += 1;
     }
     held
 }
@@ -55,7 +53,7 @@ pub(crate) fn loaded(state: &[u64; WORDS]) -> Marks
     }
 }
 
-// The number of a profile.
+// The number of a profile, as the first word has it; crate entries turns numbers into profiles, and not back.
 fn number_of(profile: Profile) -> u64
     ensures { result ≡ number_of profile }
 {
@@ -71,10 +69,8 @@ pub(crate) fn keep(state: &mut [u64; WORDS], carried: usize, more: &[u8])
     ensures { (numbers_in state.new ≡ numbers_in state.old) × (take (carried + length more.now) (held_in state.new) ≡ take carried (held_in state.old) ++ more.now) }
 {
     all_of(state);
-    let mut i: usize = 0;
-    while i < more.len() {
-        state[AT_HELD + carried + i] = more[i] as u64;
-        i += 1;
+    for (i, byte) in more.iter().enumerate() {
+        state[AT_HELD + carried + i] = *byte as u64;
     }
 }
 
@@ -85,18 +81,18 @@ fn tidied(from: Marks) -> Marks
     let mut next = from;
     let stage = from.stage;
     match stage {
-        0 => {
+        NUMBERS => {
             next.left = 0;
             next.last = 0;
             next.above = 0;
         }
-        1 => {}
-        2 => {
+        RECORDS => {}
+        COUNTING => {
             next.last = 0;
             next.above = 0;
             next.carried = 0;
         }
-        3 => {
+        REFUSED => {
             next.last = 0;
             next.above = 0;
             next.count = 0;
@@ -118,10 +114,8 @@ fn cut(state: &mut [u64; WORDS], carried: usize)
     requires { (length state.old ≡ 56) × (carried ≤ 24) }
     ensures { Laid (λ j. get_or state.old j 0 % 256) state.old 32 (32 + carried) state.new }
 {
-    let mut i: usize = 0;
-    while i < carried {
-        state[AT_HELD + i] = state[AT_HELD + i] % 256;
-        i += 1;
+    for i in 0..carried {
+        state[AT_HELD + i] %= 256;
     }
 }
 
@@ -130,11 +124,7 @@ fn clear(state: &mut [u64; WORDS], from: usize, to: usize)
     requires { (length state.old ≡ 56) × ((from ≤ to) × (to ≤ 56)) }
     ensures { Laid (λ j. 0) state.old from to state.new }
 {
-    let mut i: usize = from;
-    while i < to {
-        state[i] = 0;
-        i += 1;
-    }
+    state[from..to].fill(0);
 }
 
 // The words say so; the numbers and the bytes that are carried are there already.

@@ -35,12 +35,7 @@ fn keep(buf: &mut [u8], from: usize, to: usize)
     requires { (from ≤ to) × (to ≤ length buf.old) }
     ensures { (take (to - from) buf.new ≡ take (to - from) (drop from buf.old)) × (drop (to - from) buf.new ≡ drop (to - from) buf.old) }
 {
-    let count = to - from;
-    let mut i: usize = 0;
-    while i < count {
-        buf[i] = buf[from + i];
-        i += 1;
-    }
+    buf.copy_within(from..to, 0);
 }
 
 // How many of the bytes that have come are answered: those of whole records, and at the end of the input all.

@@ -40,16 +40,16 @@ made r (confirm k) = confirm_after r k
 
 handed-new : (k : ℕ) (old new : Receiver) → reply_of (handed_back k old new).result ≡ accepted → (handed_back k old new).next ≡ new
 handed-new zero old new e = refl
-handed-new (suc k) old new e = let z : ◌≡◌ {A = ℕ} 0 1 = cc in absurd (omega arith)
+handed-new (suc k) old new e = absurd (cc)
 
 heard-new : (v : Verdict) (old new : Receiver) → reply_to (heard v old new).verdict ≡ accepted → (heard v old new).next ≡ new
 heard-new Accepted old new e = refl
-heard-new Stale old new e = let z : ◌≡◌ {A = ℕ} 0 1 = cc in absurd (omega arith)
-heard-new (Refused k) old new e = let z : ◌≡◌ {A = ℕ} 0 1 = cc in absurd (omega arith)
+heard-new Stale old new e = absurd (cc)
+heard-new (Refused k) old new e = absurd (cc)
 
 answered-new : (k : ℕ) (r : Receiver) → reply_of (answered k r []).result ≡ accepted → (answered k r []).next ≡ after_write r
 answered-new zero r e = refl
-answered-new (suc k) r e = let z : ◌≡◌ {A = ℕ} 0 1 = cc in absurd (omega arith)
+answered-new (suc k) r e = absurd (cc)
 
 answered-old : (k : ℕ) (r : Receiver) → (reply_of (answered k r []).result ≡ accepted → ⊥) → (answered k r []).next ≡ r
 answered-old zero r f = absurd (f refl)
@@ -101,12 +101,12 @@ Meets r (confirm k) = k < r.acknowledged
 
 pub reply-zero : (k : ℕ) → reply_of k ≡ accepted → k ≡ 0
 reply-zero zero e = refl
-reply-zero (suc k) e = let z : ◌≡◌ {A = ℕ} 0 1 = cc in absurd (omega arith)
+reply-zero (suc k) e = absurd (cc)
 
 verdict-zero : (k : ℕ) (b : Bool) → reply_to (verdict_of k b) ≡ accepted → (k ≡ 0) × (b ≡ false)
 verdict-zero zero false e = (refl, refl)
-verdict-zero zero true e = let z : ◌≡◌ {A = ℕ} 0 1 = cc in absurd (omega arith)
-verdict-zero (suc k) b e = let z : ◌≡◌ {A = ℕ} 0 1 = cc in absurd (omega arith)
+verdict-zero zero true e = absurd (cc)
+verdict-zero (suc k) b e = absurd (cc)
 
 -- where no row applies, the first does not and none of the rest
 rest : (k : ℕ) (b : Bool) (rows : List Row) → first (row (suc k) b ∷ rows) ≡ 0 → (b ≡ false) × (first rows ≡ 0)

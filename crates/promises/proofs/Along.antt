@@ -188,8 +188,8 @@ module _ (o : Receiver) (z : o.agreed.sequence ≡ 0) (cs acc : Calls) (e : afte
   unfolding after
   one_more accepted h =
       step-made (after o cs) c h ∙ ap (λ (r : Receiver). made r c) e ∙ made_told o z acc c (subst (λ (r : Receiver). Meets r c) e (step-meets (after o cs) c h))
-  one_more stale h = not-joined (λ f. let z : ◌≡◌ {A = ℕ} 0 1 = cc in omega arith)
-  one_more (refused k) h = not-joined (λ f. let z : ◌≡◌ {A = ℕ} 0 1 = cc in omega arith)
+  one_more stale h = not-joined (λ f. cc)
+  one_more (refused k) h = not-joined (λ f. cc)
 
 -- what a record must be for calls to start from it
 record Start (o : Receiver) : Type 0 where

@@ -9,8 +9,7 @@ use native.Mathlib.Omega.{arith}
 use native.Mathlib.Nat.{le-max_right}
 use lib.Dec.{ltb}
 use borrow.Author.Tests.{ltb-true, leb-true}
-use Rattle.window.specs.declared.Missing.{Missing}
-use Rattle.window.specs.declared.Missing.TheVariants.{At, Nothing}
+use Rattle.std.specs.Prelude.{Option, Some, None}
 use Rattle.seen.specs.Received.{is_any}
 use Rattle.promises.specs.Accepted.{Packet}
 use Rattle.promises.specs.Told.{largest, among}
@@ -39,10 +38,10 @@ module _ (floor : ℕ) (p : Packet) (ps : List Packet) (fresh : among ps p.numbe
       (λ q. go (smallest_missing floor (p ∷ ps) highest n) refl q)
       (either (ltb (n + 1) highest) (is_any (smallest_missing floor (p ∷ ps) highest n)) o)
     where
-      go : (x : Missing) → smallest_missing floor (p ∷ ps) highest n ≡ x → is_any x ≡ true
+      go : (x : Option ℕ) → smallest_missing floor (p ∷ ps) highest n ≡ x → is_any x ≡ true
           → late ps + below ps highest + 1 ≤ late (p ∷ ps) + below (p ∷ ps) (max highest (n + 1))
-      go Nothing e q = absurd (false≢true q)
-      go (At m) e q =
+      go None e q = absurd (false≢true q)
+      go (Some m) e q =
           let g : Found (p ∷ ps) highest n m = found floor (p ∷ ps) highest n m e in
           let a : highest ≤ m = g.least in
           let b : m < n = g.most in
@@ -54,10 +53,10 @@ module _ (floor : ℕ) (p : Packet) (ps : List Packet) (fresh : among ps p.numbe
       → below ps (acknowledged - reach) + 1 ≤ below (p ∷ ps) (largest (p ∷ ps) - reach)
   far reach acknowledged end h o = go (smallest_missing floor (p ∷ ps) (acknowledged - reach) (end - 1)) refl o
     where
-      go : (x : Missing) → smallest_missing floor (p ∷ ps) (acknowledged - reach) (end - 1) ≡ x → far_below reach end x ≡ true
+      go : (x : Option ℕ) → smallest_missing floor (p ∷ ps) (acknowledged - reach) (end - 1) ≡ x → far_below reach end x ≡ true
           → below ps (acknowledged - reach) + 1 ≤ below (p ∷ ps) (largest (p ∷ ps) - reach)
-      go Nothing e q = absurd (false≢true q)
-      go (At m) e q =
+      go None e q = absurd (false≢true q)
+      go (Some m) e q =
           let g : Found (p ∷ ps) (acknowledged - reach) (end - 1) m = found floor (p ∷ ps) (acknowledged - reach) (end - 1) m e in
           let a : m + reach ≤ end - 1 = leb-true (m + reach) (end - 1) q in
           let b : m < end - 1 = g.most in

@@ -52,8 +52,8 @@ step-rises r c = go (step r c).reply refl
 
     go : (a : Reply) → (step r c).reply ≡ a → Rises r.seen (step r c).next.seen
     go accepted e = subst (λ (q : Receiver). Rises r.seen q.seen) (sym (step-made r c e)) (made-rises r c)
-    go stale e = unmoved (λ f. let z : ◌≡◌ {A = ℕ} 0 1 = cc in omega arith)
-    go (refused k) e = unmoved (λ f. let z : ◌≡◌ {A = ℕ} 0 1 = cc in omega arith)
+    go stale e = unmoved (λ f. cc)
+    go (refused k) e = unmoved (λ f. cc)
 
 -- the floor in use
 used : (s t : Seen) → Rises s t → floor s ≤ floor t

@@ -7,8 +7,7 @@ use mathlib.Core.List.{List}
 use native.Mathlib.Omega.{arith}
 use borrow.Author.Tests.{lt-leb}
 use Rattle.wire.proofs.Lengths.{split}
-use Rattle.window.specs.declared.Missing.{Missing}
-use Rattle.window.specs.declared.Missing.TheVariants.{At, Nothing}
+use Rattle.std.specs.Prelude.{Option, Some, None}
 use Rattle.receiver.specs.declared.Millis.{Millis}
 use Rattle.seen.specs.declared.Micros.{Micros}
 use Rattle.receiver.specs.declared.Receiver.{Receiver}
@@ -27,9 +26,9 @@ use Rattle.promises.proofs.Along.{agrees}
 reported : (floor : ℕ) (ps : List Packet) (reach acknowledged end : ℕ) → end ≤ acknowledged → far_below reach end (smallest_missing floor ps (acknowledged - reach) (end - 1)) ≡ false
 reported floor ps reach acknowledged end h = go (smallest_missing floor ps (acknowledged - reach) (end - 1)) refl
   where
-    go : (x : Missing) → smallest_missing floor ps (acknowledged - reach) (end - 1) ≡ x → far_below reach end x ≡ false
-    go Nothing e = refl
-    go (At m) e =
+    go : (x : Option ℕ) → smallest_missing floor ps (acknowledged - reach) (end - 1) ≡ x → far_below reach end x ≡ false
+    go None e = refl
+    go (Some m) e =
         let v : Found ps (acknowledged - reach) (end - 1) m = found floor ps (acknowledged - reach) (end - 1) m e in
         lt-leb (m + reach) (end - 1) (omega (arith, v.least, v.most))
 

@@ -258,8 +258,8 @@ module _ (r : Receiver) (c : Call) (k : consistent r ≡ true) where
 
   by-reply : (Consistent r → Meets r c → Consistent (made r c)) → (a : Reply) → (step r c).reply ≡ a → consistent (step r c).next ≡ true
   by-reply f accepted e = ap consistent (step-made r c e) ∙ (consistent-exactly (made r c)).1 (f ((consistent-exactly r).0 k) (step-meets r c e))
-  by-reply f stale e = unmoved (λ g. let z : ◌≡◌ {A = ℕ} 0 1 = cc in omega arith)
-  by-reply f (refused n) e = unmoved (λ g. let z : ◌≡◌ {A = ℕ} 0 1 = cc in omega arith)
+  by-reply f stale e = unmoved (λ g. cc)
+  by-reply f (refused n) e = unmoved (λ g. cc)
 
 call_kept : (r : Receiver) (c : Call) → consistent r ≡ true → consistent (step r c).next ≡ true
 call_kept r (packet n time eliciting mark) k = by-reply r (packet n time eliciting mark) k (packet-kept r n time eliciting mark) _ refl

@@ -12,7 +12,7 @@ use borrow.Author.Tests.{le-leb, eqb-true}
 use lib.Dec.{ltb, eqb}
 use Rattle.wire.specs.Bytes.{pick}
 use Rattle.wire.proofs.Lengths.{split}
-use Rattle.window.specs.declared.Missing.TheVariants.{At}
+use Rattle.std.specs.Prelude.{Some}
 use Rattle.receiver.specs.declared.Millis.{Millis}
 use Rattle.seen.specs.declared.Micros.{Micros}
 use Rattle.seen.specs.Received.{floor_of}
@@ -107,7 +107,7 @@ far-found ps reach end m zero n e l h f = absurd (omega arith)
 far-found ps reach end m (suc k) n e l h f = go (among ps n) refl (λ w. far-found ps reach end m k (suc n) e w (omega arith) f)
   where
     go : (b : Bool) → among ps n ≡ b → (suc n ≤ m → far_below reach end (missing_from ps k (suc n)) ≡ true)
-        → far_below reach end (elim b [ true ↦ missing_from ps k (suc n) | false ↦ At n ]) ≡ true
+        → far_below reach end (elim b [ true ↦ missing_from ps k (suc n) | false ↦ Some n ]) ≡ true
     go true t i = i (by-same n m (λ w. absurd (false≢true (sym e ∙ ap (among ps) (sym w) ∙ t))) (λ w. omega (arith, w)))
     go false t i = le-leb (n + reach) (end - 1) (omega arith)
 

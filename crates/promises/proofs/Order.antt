@@ -8,8 +8,7 @@ use native.Mathlib.Nat.{le-max_left, le-max_right, le_trans, min-le_left}
 use native.Mathlib.Omega.{arith}
 use lib.Dec.{ltb}
 use Rattle.window.specs.Window.{first_clear}
-use Rattle.window.specs.declared.Missing.{Missing}
-use Rattle.window.specs.declared.Missing.TheVariants.{At, Nothing}
+use Rattle.std.specs.Prelude.{Option, Some, None}
 use Rattle.window.proofs.Laws.{marked-bit, unmarked-bit}
 use Rattle.window.proofs.Clear.{hit, pass}
 use Rattle.seen.specs.declared.Seen.{Seen}
@@ -21,9 +20,9 @@ use Rattle.promises.specs.Order.{missing_from, smallest_missing, far_below, orde
 use Rattle.promises.proofs.Marks.{marks_of, told-value, told-place, seen}
 
 -- an answer over places as one over numbers
-abbrev in_numbers : ℕ → Missing → Missing
-in_numbers end (At place) = At (place + end - 1024)
-in_numbers end Nothing = Nothing
+abbrev in_numbers : ℕ → Option ℕ → Option ℕ
+in_numbers end (Some place) = Some (place + end - 1024)
+in_numbers end None = None
 
 search : (ps : List Packet) (k p m : ℕ) → p + largest ps ≡ m + 1024 → in_numbers (largest ps) (first_clear k p (marks_of ps)) ≡ missing_from ps k m
 unfolding missing_from first_clear
@@ -35,7 +34,7 @@ search ps (suc k) p m e = go (among ps m) refl (search ps k (suc p) (suc m) (ome
     go true t h = ap (in_numbers (largest ps)) (pass k p (marks_of ps) (marked-bit (marks_of ps) p (told-place ps p m e ∙ t))) ∙ h ∙ rw (t, missing_from)
     go false t h =
         let z : p + largest ps - 1024 ≡ m = omega arith in
-        ap (in_numbers (largest ps)) (hit (suc k) p (marks_of ps) (omega arith) (unmarked-bit (marks_of ps) p (told-place ps p m e ∙ t))) ∙ ap At z ∙ rw (t, missing_from)
+        ap (in_numbers (largest ps)) (hit (suc k) p (marks_of ps) (omega arith) (unmarked-bit (marks_of ps) p (told-place ps p m e ∙ t))) ∙ ap Some z ∙ rw (t, missing_from)
 
 -- a number at or above the floor, and its place
 place-sum : (n end : ℕ) → floor_of end ≤ n → place_of end n + end ≡ n + 1024
@@ -58,13 +57,13 @@ sought k ps from to =
     ap₂ (λ (k w : ℕ). in_numbers (largest ps) (first_clear k (place_of (largest ps) low) w)) e (told-value ps)
     ∙ search ps (min to (largest ps) - low) (place_of (largest ps) low) low (place-sum low (largest ps) l)
 
-any_same : (end : ℕ) (x : Missing) → is_any x ≡ is_any (in_numbers end x)
-any_same end (At place) = refl
-any_same end Nothing = refl
+any_same : (end : ℕ) (x : Option ℕ) → is_any x ≡ is_any (in_numbers end x)
+any_same end (Some place) = refl
+any_same end None = refl
 
-reach-same : (s : Seen) (reach end : ℕ) (x : Missing) → reaches s reach end x ≡ far_below reach end (in_numbers s.end x)
-reach-same s reach end (At place) = refl
-reach-same s reach end Nothing = refl
+reach-same : (s : Seen) (reach end : ℕ) (x : Option ℕ) → reaches s reach end x ≡ far_below reach end (in_numbers s.end x)
+reach-same s reach end (Some place) = refl
+reach-same s reach end None = refl
 
 order-of : (k : ℕ) (ps : List Packet) (r n highest acknowledged end : ℕ)
     → order (seen k ps) r n highest acknowledged end ≡ order_of (floor (seen k ps)) ps r n highest acknowledged end
@@ -88,18 +87,18 @@ pub record Found (ps : List Packet) (from to m : ℕ) : Type 0 where
   pub most : m < to
   pub missing : among ps m ≡ false
 
-found_from : (ps : List Packet) (k n m : ℕ) → missing_from ps k n ≡ At m → Found ps n (n + k) m
+found_from : (ps : List Packet) (k n m : ℕ) → missing_from ps k n ≡ Some m → Found ps n (n + k) m
 unfolding missing_from
-found_from ps zero n m e = let z : ◌≡◌ {A = ℕ} 0 1 = cc in absurd (omega arith)
+found_from ps zero n m e = absurd (cc)
 found_from ps (suc k) n m e = go (among ps n) refl (λ f. found_from ps k (suc n) m f) e
   where
-    go : (b : Bool) → among ps n ≡ b → (missing_from ps k (suc n) ≡ At m → Found ps (suc n) (suc n + k) m)
-        → elim b [ true ↦ missing_from ps k (suc n) | false ↦ At n ] ≡ At m
+    go : (b : Bool) → among ps n ≡ b → (missing_from ps k (suc n) ≡ Some m → Found ps (suc n) (suc n + k) m)
+        → elim b [ true ↦ missing_from ps k (suc n) | false ↦ Some n ] ≡ Some m
         → Found ps n (n + suc k) m
     go true t i f = let v = i f in record { least = omega (arith, v.least); most = omega (arith, v.most); missing = v.missing }
     go false t i f = let h : n ≡ m = cc in record { least = omega arith; most = omega arith; missing = rw (← h) t }
 
-pub found : (floor : ℕ) (ps : List Packet) (from to m : ℕ) → smallest_missing floor ps from to ≡ At m → Found ps from to m
+pub found : (floor : ℕ) (ps : List Packet) (from to m : ℕ) → smallest_missing floor ps from to ≡ Some m → Found ps from to m
 unfolding smallest_missing
 found floor ps from to m e =
     let low : ℕ = max from floor in

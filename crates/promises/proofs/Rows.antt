@@ -60,12 +60,12 @@ other (x ∷ rows) h e = go (other rows (both_right (not (eqb x.number 1)) (othe
     go i false f = i f
 
 reply-one : (k : ℕ) → reply_of k ≡ refused 1 → k ≡ 1
-reply-one zero e = let z : ◌≡◌ {A = ℕ} 0 1 = cc in absurd (omega arith)
+reply-one zero e = absurd (cc)
 reply-one (suc k) e = cc
 
 verdict-one : (k : ℕ) (b : Bool) → reply_to (verdict_of k b) ≡ refused 1 → k ≡ 1
-verdict-one zero true e = let z : ◌≡◌ {A = ℕ} 0 1 = cc in absurd (omega arith)
-verdict-one zero false e = let z : ◌≡◌ {A = ℕ} 0 1 = cc in absurd (omega arith)
+verdict-one zero true e = absurd (cc)
+verdict-one zero false e = absurd (cc)
 verdict-one (suc k) b e = cc
 
 -- no call on a consistent record is refused with 1

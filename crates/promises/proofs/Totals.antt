@@ -120,8 +120,8 @@ step-risen r c = go (step r c).reply refl
 
     go : (a : Reply) → (step r c).reply ≡ a → NoneFell r.totals (step r c).next.totals
     go accepted e = subst (λ (q : Receiver). NoneFell r.totals q.totals) (sym (step-made r c e)) (made-risen r c e)
-    go stale e = stays (λ f. let z : ◌≡◌ {A = ℕ} 0 1 = cc in omega arith)
-    go (refused k) e = stays (λ f. let z : ◌≡◌ {A = ℕ} 0 1 = cc in omega arith)
+    go stale e = stays (λ f. cc)
+    go (refused k) e = stays (λ f. cc)
 
 along : (r : Receiver) (cs : Calls) (l : List Call) → NoneFell (after r cs).totals (after r (in_order cs l)).totals
 unfolding in_order after

@@ -24,8 +24,8 @@ left_out r cs c f = step_kept (after r cs) c f
 joined-after : (r : Receiver) (cs ds : Calls) (c : Call) (a : Reply) → replied r cs c ≡ a → after r ds ≡ after r cs → after r (joined a ds c) ≡ after r (cs then c)
 unfolding after
 joined-after r cs ds c accepted e k = ap (λ (q : Receiver). (step q c).next) k
-joined-after r cs ds c stale e k = k ∙ sym (left_out r cs c (λ f. let z : ◌≡◌ {A = ℕ} 0 1 = cc in omega arith))
-joined-after r cs ds c (refused n) e k = k ∙ sym (left_out r cs c (λ f. let z : ◌≡◌ {A = ℕ} 0 1 = cc in omega arith))
+joined-after r cs ds c stale e k = k ∙ sym (left_out r cs c (λ f. cc))
+joined-after r cs ds c (refused n) e k = k ∙ sym (left_out r cs c (λ f. cc))
 
 alone : (r : Receiver) (cs : Calls) → after r (accepted_of r cs) ≡ after r cs
 unfolding accepted_of

@@ -1,10 +1,9 @@
 -- Acknowledged: what a written ACK tells after any calls from any opening. Read back, its frame holds the newest maximal runs of the accepted numbers, from the floor up to the largest (02, No. 12: what the sender confirmed is below it), and as many of them as fit.
-use Rattle.std.specs.Prelude.{ℕ, ◌+◌, ◌-◌, ◌*◌, ◌≤◌, ◌<◌, ◌≡◌, true, List, length, take, get_or}
+use Rattle.std.specs.Prelude.{ℕ, ◌+◌, ◌-◌, ◌*◌, ◌≤◌, ◌<◌, ◌≡◌, true, List, length, take, get_or, Option}
 use Rattle.wire.specs.Bytes.{splice}
 use Rattle.wire.specs.Numbers.{encode_all}
-use Rattle.frames.specs.Ack.{ack_numbers, read_ack}
-use Rattle.frames.specs.declared.Tail.{Tail}
-use Rattle.frames.specs.declared.Ack.TheVariants.{Frame}
+use Rattle.frames.specs.Ack.{ack_numbers, ack, read_ack}
+use Rattle.frames.specs.declared.Counts.{Counts}
 use Rattle.receiver.specs.declared.Millis.{Millis}
 use Rattle.ecn.specs.declared.Kind.{Kind}
 use Rattle.seen.specs.declared.Micros.{Micros}
@@ -49,11 +48,11 @@ OneList = (cs : Calls) (a b : ℕ) (xs ys : List ℕ) → MaximalRuns cs a xs �
 -- ---- the frame
 
 -- what comes after the ranges of a frame of that type: nothing, or the totals as they stand (02, No. 2)
-abbrev pub tail_in : Kind → Calls → Tail
+abbrev pub tail_in : Kind → Calls → Option Counts
 tail_in kind cs = tail_of kind (totals_of (packets cs))
 
 -- the bytes of an ACK frame with the k newest of the runs
-abbrev pub ack_of : Tail → ℕ → List ℕ → ℕ → List ℕ
+abbrev pub ack_of : Option Counts → ℕ → List ℕ → ℕ → List ℕ
 ack_of tail delay runs k = encode_all (ack_numbers tail delay (take (2 * k) runs))
 
 -- what bytes, `used` of them the frame, tell of accepted calls, where they were written at a time into a room
@@ -69,7 +68,7 @@ pub record Acknowledges (cs : Calls) (time : Micros) (kind : Kind) (room : ℕ) 
   pub most : (k : ℕ) → kept < k → k ≤ count → room < length (ack_of (tail_in kind cs) (ack_delay (seen_of cs) time) runs k)
   -- "an ACK with largest L, delay one eighth [..] of the microseconds since L arrived" and exactly these runs; zs is a lent slice that has room for them
   pub back : (zs : List ℕ) → 2 * kept ≤ length zs
-      → read_ack bytes zs ≡ record { answer = Frame (largest (packets cs) - 1) (ack_delay (seen_of cs) time) kept used (tail_in kind cs); slice = splice zs 0 (take (2 * kept) runs) }
+      → read_ack bytes zs ≡ record { answer = ack (largest (packets cs) - 1) (ack_delay (seen_of cs) time) kept used (tail_in kind cs); slice = splice zs 0 (take (2 * kept) runs) }
 
 -- an accepted write into any lent buffer xs, after any calls from any opening
 abbrev pub Acknowledged : Type 0

@@ -1,32 +1,30 @@
 -- The order line read in packet numbers: which of them are missing is seen from the accepted packets, no window and no place is spoken of.
-use Rattle.std.specs.Prelude.{ℕ, zero, suc, ◌+◌, ◌-◌, min, max, ◌≡◌, Bool, true, false, ◌||◌, List, leb, ltb}
-use Rattle.window.specs.declared.Missing.{Missing}
-use Rattle.window.specs.declared.Missing.TheVariants.{At, Nothing}
+use Rattle.std.specs.Prelude.{ℕ, zero, suc, ◌+◌, ◌-◌, min, max, ◌≡◌, Bool, true, false, ◌||◌, List, leb, ltb, Option, Some, None}
 use Rattle.receiver.specs.declared.Millis.{Millis}
 use Rattle.seen.specs.declared.Micros.{Micros}
 use Rattle.receiver.specs.declared.Receiver.{Receiver}
 use Rattle.seen.specs.Received.{is_any}
 use Rattle.receiver.specs.Packet.{order}
 use Rattle.ecn.specs.declared.Mark.{Mark}
-use Rattle.ecn.specs.declared.Mark.TheVariants.{None}
+use Rattle.ecn.specs.declared.Mark.TheVariants.{None as Unmarked}
 use Rattle.ecn.specs.declared.Kind.TheVariants.{Plain}
 use Rattle.promises.specs.Sequence.{packet, write, Calls, none, ◌then◌, accepted, after, replied, opening}
 use Rattle.promises.specs.Accepted.{Packet, packets}
 use Rattle.promises.specs.Told.{largest, among, floor_in, seen_of}
 
 -- the smallest of k numbers from n on that is not among the packets
-unfoldable pub missing_from : List Packet → ℕ → ℕ → Missing
-missing_from ps zero n = Nothing
-missing_from ps (suc k) n = elim (among ps n) [ true ↦ missing_from ps k (suc n) | false ↦ At n ]
+unfoldable pub missing_from : List Packet → ℕ → ℕ → Option ℕ
+missing_from ps zero n = None
+missing_from ps (suc k) n = elim (among ps n) [ true ↦ missing_from ps k (suc n) | false ↦ Some n ]
 
 -- "missing numbers are sought only in the window", from the floor up to L: the smallest from `from` up to below `to`
-unfoldable pub smallest_missing : ℕ → List Packet → ℕ → ℕ → Missing
+unfoldable pub smallest_missing : ℕ → List Packet → ℕ → ℕ → Option ℕ
 smallest_missing floor ps from to = missing_from ps (min to (largest ps) - max from floor) (max from floor)
 
 -- "U - m >= R", where U's end is `end`
-abbrev pub far_below : ℕ → ℕ → Missing → Bool
-far_below reach end (At m) = leb (m + reach) (end - 1)
-far_below reach end Nothing = false
+abbrev pub far_below : ℕ → ℕ → Option ℕ → Bool
+far_below reach end (Some m) = leb (m + reach) (end - 1)
+far_below reach end None = false
 
 -- "3, order": the floor and the packets with this one, R, this one's number, the earlier H, A and U
 unfoldable pub order_of : ℕ → List Packet → ℕ → ℕ → ℕ → ℕ → ℕ → Bool
@@ -56,7 +54,7 @@ abbrev pub apart : Receiver
 apart =
     let start : Micros = record { 0 = 0 } in
     after (opening 1 1 (record { 0 = 25 }) (record { 0 = 1000 }))
-    (none then packet 0 start true None then packet 2 start true None then write start Plain 64 then packet 1 start true None)
+    (none then packet 0 start true Unmarked then packet 2 start true Unmarked then write start Plain 64 then packet 1 start true Unmarked)
 
 -- and yet the two may be apart: then U is 1 and H is 2
 pub record Apart : Type 0 where

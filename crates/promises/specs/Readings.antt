@@ -1,6 +1,5 @@
 -- Cases that tell what the promises say from a reading that is near to it and wrong. What else is told apart by a case stands in Reached and NoLossCases.
-use Rattle.std.specs.Prelude.{ℕ, ◌≡◌, true, false, List, [], ◌∷◌}
-use Rattle.window.specs.declared.Missing.TheVariants.{At}
+use Rattle.std.specs.Prelude.{ℕ, ◌≡◌, true, false, List, [], ◌∷◌, Some}
 use Rattle.receiver.specs.declared.Receiver.{Receiver}
 use Rattle.receiver.specs.Record.{consistent}
 use Rattle.receiver.specs.Packet.{order}
@@ -46,6 +45,6 @@ pub record Readings : Type 0 where
   -- "in the window or below it": of 1 to 1,024 also number 1 is passed over
   pub below_the_window : S far ≡ 1024
   -- "missing numbers are sought only in the window": from 1 up the first is 2
-  pub from_the_floor : smallest_missing (floor_in far) (packets far) 1 1025 ≡ At 2
+  pub from_the_floor : smallest_missing (floor_in far) (packets far) 1 1025 ≡ Some 2
   -- U - m >= R asked of H is asked of the H that this packet leaves: of the one before it, nothing is missing
   pub later_highest : (order new.seen 3 4 old.highest old.acknowledged new.highest ≡ true) × (order new.seen 3 4 old.highest old.acknowledged old.highest ≡ false)

@@ -1,20 +1,19 @@
 -- Settled: the examples P1 to P10 of document 01, on the definitions, as one list under one statement.
-use Rattle.std.specs.Prelude.{◌≡◌, [], ◌∷◌, replicate}
+use Rattle.std.specs.Prelude.{◌≡◌, [], ◌∷◌, Err, replicate}
 use Rattle.wire.specs.Numbers.{width_of}
-use Rattle.frames.specs.Frequency.{read_frequency}
-use Rattle.frames.specs.declared.Frequency.TheVariants.{Frame}
+use Rattle.wire.specs.declared.Refusal.TheVariants.{NoRoom}
+use Rattle.frames.specs.Frequency.{thresholds, read_frequency}
 use Rattle.ecn.specs.declared.Kind.TheVariants.{Plain}
 use Rattle.receiver.specs.Write.{write_bytes}
 use Rattle.receiver.specs.Examples.{started, arrival, dues}
 use Rattle.receiver.specs.Settled.{five, at_once, in_room}
 use Rattle.entries.specs.Limits.{most_entries}
-use Rattle.report.specs.Writer.{answer_by as report_answer, bytes_by as report_bytes}
-use Rattle.report.specs.declared.Written.TheVariants.{Done, Refused}
+use Rattle.report.specs.Writer.{done, answer_by as report_answer, bytes_by as report_bytes}
 use Rattle.report.specs.Examples.{sample, three}
 
 pub record Settled : Type 0 where
   -- "40 af 05 0a 80 00 61 a8 03 is sequence 5, T 10, delay 25,000, R 3"
-  pub P1 : read_frequency (0x40 ∷ 0xaf ∷ 0x05 ∷ 0x0a ∷ 0x80 ∷ 0x00 ∷ 0x61 ∷ 0xa8 ∷ 0x03 ∷ []) ≡ Frame 5 10 25000 3 9
+  pub P1 : read_frequency (0x40 ∷ 0xaf ∷ 0x05 ∷ 0x0a ∷ 0x80 ∷ 0x00 ∷ 0x61 ∷ 0xa8 ∷ 0x03 ∷ []) ≡ thresholds 5 10 25000 3 9
   -- "63 takes one byte, 64 two"
   pub P2 : width_of 63 ≡ 1
   pub P3 : width_of 64 ≡ 2
@@ -39,7 +38,7 @@ pub record Settled : Type 0 where
   pub P9 : report_bytes 1 (sample 0) [] most_entries (replicate 15 0)
       ≡ 0x80 ∷ 0x0f ∷ 0x42 ∷ 0x40 ∷ 0x80 ∷ 0x01 ∷ 0x86 ∷ 0xa0 ∷ 0x03 ∷ 0x01 ∷ 0x01 ∷ 0x01 ∷ 0x03 ∷ 0x00 ∷ 0x00 ∷ []
   -- "the same with three records: room 47 keeps two, 46 one, 15 none, 14 gives 9"
-  pub P10-two : report_answer 1 (sample 0) three most_entries 47 ≡ Done 47 2
-  pub P10-one : report_answer 1 (sample 0) three most_entries 46 ≡ Done 31 1
-  pub P10-none : report_answer 1 (sample 0) three most_entries 15 ≡ Done 15 0
-  pub P10-refused : report_answer 1 (sample 0) three most_entries 14 ≡ Refused 9
+  pub P10-two : report_answer 1 (sample 0) three most_entries 47 ≡ done 47 2
+  pub P10-one : report_answer 1 (sample 0) three most_entries 46 ≡ done 31 1
+  pub P10-none : report_answer 1 (sample 0) three most_entries 15 ≡ done 15 0
+  pub P10-refused : report_answer 1 (sample 0) three most_entries 14 ≡ Err NoRoom

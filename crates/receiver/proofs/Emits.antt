@@ -8,15 +8,16 @@ use native.Mathlib.Omega.{arith}
 use borrow.Author.Tests.{le-leb, lt-leb, le-ltb, lt-ltb}
 use lib.Dec.{eqb}
 use lib.ListN.{length}
+use Rattle.std.specs.Prelude.{Option}
 use Rattle.wire.proofs.Lengths.{split}
 use Rattle.seen.specs.declared.Micros.{Micros}
 use Rattle.seen.specs.Numbers.{small}
 use Rattle.seen.specs.Received.{seen_consistent, reported}
-use Rattle.ack.specs.Ack.{ack_delay, frame, ack_refusal, acked, laid, ack_answer, ack_bytes}
+use Rattle.ack.specs.Ack.{ack_delay, frame, ack_refusal, laid, ack_bytes}
 use Rattle.seen.proofs.Tests.{by-test}
-use Rattle.ack.proofs.Emits.{frame-fits, laid-long, laid-stays, ack-read-back}
+use Rattle.ack.proofs.Emits.{answer-length, frame-fits, laid-long, laid-stays, lasting, ack-read-back}
 use Rattle.receiver.specs.declared.Receiver.{Receiver}
-use Rattle.frames.specs.declared.Tail.{Tail}
+use Rattle.frames.specs.declared.Counts.{Counts}
 use Rattle.ecn.specs.declared.Kind.{Kind}
 use Rattle.ecn.specs.Totals.{tail_of}
 use Rattle.receiver.specs.Record.{rest_consistent, consistent}
@@ -57,7 +58,7 @@ module _ (r : Receiver) (bytes xs : List ℕ) where
   unchanged-of zero f = absurd (f refl)
   unchanged-of (suc k) f = (refl, refl)
 
-  same_length : (k : ℕ) → (answered k r bytes).length ≡ (acked k bytes).length
+  same_length : (k : ℕ) → (answered k r bytes).length ≡ lasting k bytes
   same_length zero = refl
   same_length (suc k) = refl
 
@@ -109,18 +110,16 @@ asked r time kind room e =
     (λ s. let f : ◌≡◌ {A = ℕ} 1 0 = rw (s, n) at e in absurd (omega arith))
     (λ s. let f : ◌≡◌ {A = ℕ} 1 0 = rw s at e in absurd (omega arith)))
 
-result-acked : (k : ℕ) (bytes : List ℕ) → k ≡ 0 → (acked k bytes).result ≡ 0
-result-acked k bytes e = rw e
-
 pub write-read-back : WriteReadBack
-unfolding write_answer write_bytes ack_answer ack_bytes
+unfolding write_answer write_bytes ack_bytes
 write-read-back r time kind xs e =
     let k : ℕ = write_refusal r time kind (length xs) in
-    let tail : Tail = tail_of kind r.totals in
+    let tail : Option Counts = tail_of kind r.totals in
     let bytes : List ℕ = emitted r time kind (length xs) in
     let z : k ≡ 0 = sym (result-of k r bytes) ∙ e in
     let s : k ≡ ack_refusal r.seen time tail (length xs) = same-refusal r time kind xs (asked r time kind (length xs) z) in
-    rw (same_length r bytes xs k, s) (ack-read-back r.seen time tail xs (result-acked _ bytes (sym s ∙ z)))
+    let b = ack-read-back r.seen time tail xs (length bytes) (answer-length r.seen time tail xs (sym s ∙ z)) in
+    rw (same_length r bytes xs k, z) (rw (sym s ∙ z) at b)
 
 -- ---- what the call leaves in the buffer
 

@@ -7,9 +7,8 @@ use native.Mathlib.Nat.{min-eq_left, min-eq_right}
 use native.Mathlib.Omega.{arith}
 use borrow.Author.Tests.{le-leb, lt-leb}
 use lib.Dec.{leb, ltb}
+use Rattle.std.specs.Prelude.{Option, Some, None}
 use Rattle.wire.proofs.Lengths.{split}
-use Rattle.window.specs.declared.Missing.{Missing}
-use Rattle.window.specs.declared.Missing.TheVariants.{At, Nothing}
 use Rattle.seen.proofs.Missing.{place-least, none_between}
 use Rattle.seen.specs.declared.Seen.{Seen}
 use Rattle.seen.specs.Received.{first_missing, is_any}
@@ -25,14 +24,14 @@ leb-same a b c d f g =
 -- so up to H only the number itself is compared
 pub not_beyond : (s : Seen) (n highest : ℕ) → n ≤ highest → ltb (n + 1) highest ≡ out_of_order s n highest
 unfolding out_of_order
-not_beyond s n highest h = alone (ltb (n + 1) highest) ∙ ap (λ (m : Missing). ltb (n + 1) highest || is_any m) (none_between s highest n h)
+not_beyond s n highest h = alone (ltb (n + 1) highest) ∙ ap (λ (m : Option ℕ). ltb (n + 1) highest || is_any m) (none_between s highest n h)
   where
     alone : (b : Bool) → b ≡ (b || false)
     alone true = refl
     alone false = refl
 
 module _ (s : Seen) (reach acknowledged end : ℕ) where
-  pub gap_at : (place : ℕ) → 0 < end → At place ≡ first_missing s (acknowledged - reach) (end - 1)
+  pub gap_at : (place : ℕ) → 0 < end → Some place ≡ first_missing s (acknowledged - reach) (end - 1)
       → leb (place + s.end + reach) (end + 1023) ≡ gap_reached s reach acknowledged end
   unfolding gap_reached
   gap_at place h e =
@@ -40,7 +39,7 @@ module _ (s : Seen) (reach acknowledged end : ℕ) where
       leb-same (place + s.end + reach) (end + 1023) (place + s.end - 1024 + reach) (end - 1) (λ k. omega arith) (λ k. omega arith)
       ∙ ap (reaches s reach end) e
 
-  pub gap-none : Nothing ≡ first_missing s (acknowledged - reach) (end - 1) → false ≡ gap_reached s reach acknowledged end
+  pub gap-none : None ≡ first_missing s (acknowledged - reach) (end - 1) → false ≡ gap_reached s reach acknowledged end
   unfolding gap_reached
   gap-none e = ap (reaches s reach end) e
 

@@ -3,9 +3,12 @@
 use Prim.Native.Nat.{ℕ, zero, suc}
 use native.Mathlib.Omega.{arith}
 use mathlib.Core.Path.{◌≡◌, refl}
-use borrow.Author.Tests.{ne_eqb}
 use Rattle.receiver.specs.declared.Receiver.{Receiver}
-use lib.Dec.{eqb}
+use Rattle.std.specs.Prelude.{Result, Ok, Err}
+use Rattle.std.specs.Result.{is_ok}
+use Rattle.wire.specs.Refusals.{number_of, refusal_number}
+use Rattle.wire.specs.declared.Refusal.{Refusal}
+use Rattle.ack.proofs.Refusals.{some-number}
 use Rattle.wire.specs.Bytes.{pick}
 use Rattle.receiver.specs.Packet.{standing, handed_back}
 use Rattle.receiver.specs.Calls.{with_cause}
@@ -34,6 +37,7 @@ pub accepted : (k : ℕ) (old new : Receiver) → k ≡ 0 → record { result = 
 accepted k old new e = rw e
 
 -- where the cause alone may change, a refusal leaves it
-pub looked : (k : ℕ) (r : Receiver) (new : ℕ) → record { result = k; next = with_cause r (pick (eqb k 0) (standing r.cause new) r.cause) } ≡ handed_back k r (with_cause r (standing r.cause new))
-looked zero r new = refl
-looked (suc k) r new = rw (ne_eqb (suc k) 0 (λ e. omega arith))
+pub looked : {A : Type 0} (a : Result A Refusal) (r : Receiver) (new : ℕ)
+    → record { result = refusal_number a; next = with_cause r (pick (is_ok a) (standing r.cause new) r.cause) } ≡ handed_back (refusal_number a) r (with_cause r (standing r.cause new))
+looked (Ok x) r new = refl
+looked (Err n) r new = refused (number_of n) r _ (some-number n)

@@ -1,15 +1,19 @@
 -- What the write call answers and leaves in the buffer, from what `write_ack` answered: the rest of the record is tested first, and no test is made twice.
 -- Assumes nothing.
 use Prim.Native.Nat.{ℕ, zero, suc}
-use native.Mathlib.Omega.{arith}
 use mathlib.Core.Path.{◌≡◌, refl, sym, ap, ◌∙◌}
 use mathlib.Core.Bool.{true, false}
 use mathlib.Core.List.{List}
 use lib.ListN.{length}
+use Rattle.std.specs.Prelude.{Result, Ok, Err}
+use Rattle.wire.specs.Bytes.{splice}
+use Rattle.wire.specs.Refusals.{number_of, refusal_number}
+use Rattle.wire.specs.declared.Refusal.{Refusal}
 use Rattle.seen.specs.declared.Micros.{Micros}
-use Rattle.ack.specs.declared.Acked.{Acked}
 use Rattle.seen.specs.Received.{numbers_obey, marks_consistent, seen_consistent}
-use Rattle.ack.specs.Ack.{ack_refusal, ack_frame, acked, ack_answer, ack_bytes}
+use Rattle.ack.specs.Ack.{ack_refusal, ack_frame, ack_answer, ack_bytes}
+use Rattle.ack.proofs.Emits.{answer-number, answer-length}
+use Rattle.ack.proofs.Refusals.{some-number}
 use Rattle.seen.proofs.Tests.{by-test}
 use Rattle.receiver.specs.declared.Receiver.{Receiver}
 use Rattle.ecn.specs.declared.Kind.{Kind}
@@ -36,14 +40,9 @@ module _ (r : Receiver) where
   unfolding seen_consistent
   marks-decide y e = sym (rest-holds y) ∙ rw e
 
-module _ (r : Receiver) (bytes : List ℕ) where
-  refusal-answered : (k : ℕ) → ((acked k bytes).result ≡ 0 → ⊥) → record { result = (acked k bytes).result; length = 0; next = r } ≡ answered k r bytes
-  refusal-answered zero f = absurd (f refl)
-  refusal-answered (suc k) f = refl
-
-  frame-answered : (k : ℕ) → (acked k bytes).result ≡ 0 → record { result = 0; length = (acked k bytes).length; next = after_write r } ≡ answered k r bytes
-  frame-answered zero e = refl
-  frame-answered (suc k) e = absurd (omega arith)
+refusal-answered : (r : Receiver) (bytes : List ℕ) (k : ℕ) → (k ≡ 0 → ⊥) → record { result = k; length = 0; next = r } ≡ answered k r bytes
+refusal-answered r bytes zero f = absurd (f refl)
+refusal-answered r bytes (suc k) f = refl
 
 module _ (r : Receiver) (time : Micros) (kind : Kind) (xs : List ℕ) where
   pub refused-first : rest_consistent r ≡ false → (record { result = 1; length = 0; next = r } ≡ write_answer r time kind xs) × (xs ≡ write_bytes r time kind xs)
@@ -55,15 +54,22 @@ module _ (r : Receiver) (time : Micros) (kind : Kind) (xs : List ℕ) where
     unfolding write_refusal ack_refusal
     same-refusal = rw (rest-holds r y)
 
-    module _ {a : Acked} {ys : List ℕ} (e : a ≡ ack_answer r.seen time (tail_of kind r.totals) xs) (f : ys ≡ ack_bytes r.seen time (tail_of kind r.totals) xs) where
-      pub wrote-refusal : (a.result ≡ 0 → ⊥) → (record { result = a.result; length = 0; next = r } ≡ write_answer r time kind xs) × (ys ≡ write_bytes r time kind xs)
-      unfolding write_answer write_bytes ack_answer ack_bytes
-      wrote-refusal n =
-          let k : ℕ = ack_refusal r.seen time (tail_of kind r.totals) (length xs) in
-          rw (same-refusal, e) (refusal-answered r (ack_frame r.seen time (tail_of kind r.totals) (length xs)) k (λ z. n (ap (λ (x : Acked). x.result) e ∙ z)), f)
+    module _ {a : Result ℕ Refusal} {ys : List ℕ} (e : a ≡ ack_answer r.seen time (tail_of kind r.totals) xs) (f : ys ≡ ack_bytes r.seen time (tail_of kind r.totals) xs) where
+      -- the answer's number is the call's
+      numbered : refusal_number a ≡ ack_refusal r.seen time (tail_of kind r.totals) (length xs)
+      numbered = ap refusal_number e ∙ answer-number r.seen time (tail_of kind r.totals) xs
 
-      pub wrote-frame : {q : Receiver} → q ≡ after_write r → a.result ≡ 0 → (record { result = 0; length = a.length; next = q } ≡ write_answer r time kind xs) × (ys ≡ write_bytes r time kind xs)
-      unfolding write_answer write_bytes ack_answer ack_bytes
-      wrote-frame w z =
-          let k : ℕ = ack_refusal r.seen time (tail_of kind r.totals) (length xs) in
-          rw (same-refusal, e, w) (frame-answered r (ack_frame r.seen time (tail_of kind r.totals) (length xs)) k (ap (λ (x : Acked). x.result) (sym e) ∙ z), f)
+      pub wrote-refusal : {n : Refusal} → a ≡ Err n → (record { result = number_of n; length = 0; next = r } ≡ write_answer r time kind xs) × (ys ≡ write_bytes r time kind xs)
+      unfolding write_answer write_bytes ack_bytes
+      wrote-refusal {n} g =
+          let k : number_of n ≡ ack_refusal r.seen time (tail_of kind r.totals) (length xs) = ap refusal_number (sym g) ∙ numbered in
+          rw (same-refusal, ← k) (refusal-answered r (ack_frame r.seen time (tail_of kind r.totals) (length xs)) (number_of n) (some-number n), rw k f)
+
+      pub wrote-frame : {q : Receiver} {n : ℕ} → q ≡ after_write r → a ≡ Ok n → (record { result = 0; length = n; next = q } ≡ write_answer r time kind xs) × (ys ≡ write_bytes r time kind xs)
+      unfolding write_answer write_bytes ack_bytes
+      wrote-frame {q} {n} w g =
+          let k : 0 ≡ ack_refusal r.seen time (tail_of kind r.totals) (length xs) = ap refusal_number (sym g) ∙ numbered in
+          let b = answer-length r.seen time (tail_of kind r.totals) xs (sym k) in
+          let l : n ≡ length (ack_frame r.seen time (tail_of kind r.totals) (length xs)) = cc in
+          let b₂ : ys ≡ splice xs 0 (ack_frame r.seen time (tail_of kind r.totals) (length xs)) = rw (sym k) at f in
+          rw (same-refusal, w, ← k) (rw l refl, b₂)

@@ -1,11 +1,9 @@
 -- Opening, timer, threshold frame and IMMEDIATE_ACK.
-use Rattle.std.specs.Prelude.{ℕ, zero, suc, ◌+◌, ◌-◌, Bool, ◌&&◌, leb, ltb, eqb}
+use Rattle.std.specs.Prelude.{ℕ, ◌+◌, ◌-◌, Bool, ◌&&◌, leb, ltb, eqb}
 use Rattle.wire.specs.Bytes.{pick}
 use Rattle.window.specs.Window.{window_of}
 use Rattle.receiver.specs.declared.Millis.{Millis}
 use Rattle.seen.specs.declared.Micros.{Micros}
-use Rattle.receiver.specs.declared.Agreed.{Agreed}
-use Rattle.receiver.specs.declared.Limits.{Limits}
 use Rattle.receiver.specs.declared.Receiver.{Receiver}
 use Rattle.receiver.specs.declared.Answer.{Answer}
 use Rattle.receiver.specs.declared.Verdict.{Verdict}

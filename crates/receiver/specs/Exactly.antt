@@ -1,5 +1,5 @@
 -- The refusal table for the calls on the record: the rows that concern a call, in the paper's order; the first that applies is given.
-use Rattle.std.specs.Prelude.{ℕ, zero, suc, ◌≡◌, Bool, true, false, not, ◌&&◌, List, [], ◌∷◌, leb, ltb, eqb}
+use Rattle.std.specs.Prelude.{ℕ, zero, suc, ◌≡◌, Bool, not, ◌&&◌, List, [], ◌∷◌, leb, ltb, eqb}
 use Rattle.wire.specs.Bytes.{pick}
 use Rattle.receiver.specs.declared.Millis.{Millis}
 use Rattle.seen.specs.declared.Micros.{Micros}
@@ -12,7 +12,7 @@ use Rattle.seen.specs.Received.{floor, received}
 use Rattle.receiver.specs.Record.{limits_rule, delay_rule, consistent}
 use Rattle.receiver.specs.Packet.{packet_call}
 use Rattle.receiver.specs.Confirm.{not_acknowledged, confirm_call}
-use Rattle.receiver.specs.Calls.{opened, usual, open_call, timer_call, immediate_call, threshold_call}
+use Rattle.receiver.specs.Calls.{usual, open_call, timer_call, immediate_call, threshold_call}
 
 -- a row of the table: its number, and whether it applies to the call
 pub record Row : Type 0 where

@@ -1,9 +1,7 @@
 -- "Packet": refusals 1, 5, then 6 and 7; what an accepted packet raises; the causes count, order and congestion.
-use Rattle.std.specs.Prelude.{ℕ, zero, suc, ◌+◌, ◌-◌, ◌≤◌, ◌<◌, min, max, Bool, true, false, not, ◌&&◌, ◌||◌, List, leb, ltb, eqb}
+use Rattle.std.specs.Prelude.{ℕ, zero, suc, ◌+◌, ◌-◌, ◌≤◌, ◌<◌, min, max, Bool, false, not, ◌&&◌, ◌||◌, List, leb, ltb, eqb, Option, Some, None}
 use Rattle.wire.specs.Bytes.{pick}
 use Rattle.wire.specs.Numbers.{limit}
-use Rattle.window.specs.declared.Missing.{Missing}
-use Rattle.window.specs.declared.Missing.TheVariants.{At, Nothing}
 use Rattle.seen.specs.declared.Micros.{Micros}
 use Rattle.seen.specs.declared.Seen.{Seen}
 use Rattle.receiver.specs.declared.Pending.{Pending}
@@ -56,9 +54,9 @@ unfoldable pub out_of_order : Seen → ℕ → ℕ → Bool
 out_of_order s n highest = ltb (n + 1) highest || is_any (first_missing s highest n)
 
 -- U - m >= R for the missing number m at a place, where U's end is `end`
-abbrev pub reaches : Seen → ℕ → ℕ → Missing → Bool
-reaches s reach end (At place) = leb (number_at s.end place + reach) (end - 1)
-reaches s reach end Nothing = false
+abbrev pub reaches : Seen → ℕ → ℕ → Option ℕ → Bool
+reaches s reach end (Some place) = leb (number_at s.end place + reach) (end - 1)
+reaches s reach end None = false
 
 -- "R from 2 up: the smallest unreported missing number m has U - m >= R. Unreported missing numbers are those not received, below U, and above A - R"
 unfoldable pub gap_reached : Seen → ℕ → ℕ → ℕ → Bool

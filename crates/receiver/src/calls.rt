@@ -1,6 +1,7 @@
 // Opening, timer, threshold frame and IMMEDIATE_ACK.
-ghost use Rattle.std.specs.Prelude.{◌≡◌, ◌<◌, ◌&&◌, eqb};
+ghost use Rattle.std.specs.Prelude.{◌≡◌, ◌<◌, ◌&&◌};
 ghost use Rattle.wire.specs.Bytes.{pick};
+ghost use Rattle.wire.specs.Refusals.{number_of, refusal_number};
 ghost use Rattle.seen.specs.Numbers.{small};
 ghost use Rattle.receiver.specs.Packet.{standing};
 ghost use Rattle.receiver.specs.Calls.{opened, usual, open_call, timer_due, timer_refusal, timer_call, immediate_call, heard, threshold_call};
@@ -10,6 +11,7 @@ use crate::{Agreed, Answer, Heard, Limits, Millis, Pending, Receiver, Verdict};
 use ecn::Totals;
 use seen::{Micros, Seen, numbers};
 use window::Window;
+use wire::Refusal;
 
 // A cause, once set, stays.
 fn standing(cause: u64, new: u64) -> u64
@@ -23,11 +25,11 @@ fn standing(cause: u64, new: u64) -> u64
 
 impl Heard {
     // A refusal's number and the record as it came.
-    fn refused(refusal: u64, kept: Receiver) -> Heard
-        ensures { result ≡ heard (Refused refusal) kept kept }
+    fn refused(refusal: Refusal, kept: Receiver) -> Heard
+        ensures { result ≡ heard (Refused (number_of refusal)) kept kept }
     {
         Heard {
-            verdict: Verdict::Refused(refusal),
+            verdict: Verdict::Refused(refusal.number()),
             next: kept,
         }
     }
@@ -84,11 +86,10 @@ impl Receiver {
     }
 
     // The usual opening beside a refusal number.
-    fn refused_opening(res: u64) -> Answer
-        ensures { result ≡ record { result = res; next = usual } }
+    fn refused_opening(refusal: Refusal) -> Answer
+        ensures { result ≡ record { result = number_of refusal; next = usual } }
     {
-        let next = Receiver::opened(1, 1, Millis(25), Micros(1000));
-        Answer { result: res, next }
+        Answer::refused(refusal, Receiver::opened(1, 1, Millis(25), Micros(1000)))
     }
 
     // Opens a receiver: T, R, the own maximum delay and the own minimum delay.
@@ -96,11 +97,11 @@ impl Receiver {
         ensures { result ≡ open_call threshold reordering maximum minimum }
     {
         if !numbers::all_small(threshold, reordering, maximum.0, minimum.0) {
-            return Receiver::refused_opening(5);
+            return Receiver::refused_opening(Refusal::TooLarge);
         }
         let limits = Limits { maximum, minimum };
         if !limits.allowed() {
-            return Receiver::refused_opening(4);
+            return Receiver::refused_opening(Refusal::DelayRule);
         }
         let next = Receiver::opened(threshold, reordering, maximum, minimum);
         Answer { result: 0, next }
@@ -111,11 +112,10 @@ impl Receiver {
         ensures { result ≡ immediate_call self }
     {
         if !self.consistent() {
-            return Answer::refused(1, self);
+            return Answer::refused(Refusal::Inconsistent, self);
         }
-        let seen = self.seen;
-        if seen.end == 0 {
-            return Answer::refused(8, self);
+        if self.seen.end == 0 {
+            return Answer::refused(Refusal::NothingReceived, self);
         }
         let mut next = self;
         next.cause = standing(self.cause, 1);
@@ -123,42 +123,37 @@ impl Receiver {
     }
 
     // Whether the time since the first unacknowledged arrival has reached the delay in force.
+    #[tactic(auto, unfolding(crate::specs::Calls::timer_due))]
     fn timer_due(self, time: Micros) -> bool
         ensures { result ≡ timer_due self time }
     {
-        let pending = self.pending;
-        if pending.count == 0 {
-            return false;
-        }
-        let agreed = self.agreed;
-        agreed.delay.0 <= numbers::minus_or_zero(time.0, pending.first.0)
+        let waited = time.0.saturating_sub(self.pending.first.0);
+        self.pending.count != 0 && self.agreed.delay.0 <= waited
     }
 
-    // Why the timer call is refused, or 0. The two halves of `consistent` are asked by themselves: whole it has several callers, is left outside by the compiler, and has the record copied for it.
-    fn timer_refusal(self, time: Micros) -> u64
-        ensures { result ≡ timer_refusal self time }
+    // Whether the timer call is accepted. The two halves of `consistent` are asked by themselves: whole it has several callers, is left outside by the compiler, and has the record copied for it.
+    #[tactic(auto, unfolding(crate::specs::Calls::timer_refusal))]
+    fn check_timer(self, time: Micros) -> Result<(), Refusal>
+        ensures { refusal_number result ≡ timer_refusal self time }
     {
         if !self.rest_consistent() {
-            return 1;
+            return Err(Refusal::Inconsistent);
         }
         let seen = self.seen;
         if !seen.consistent() {
-            return 1;
+            return Err(Refusal::Inconsistent);
         }
         if !numbers::is_small(time.0) {
-            return 5;
+            return Err(Refusal::TooLarge);
         }
-        0
+        Ok(())
     }
 
     // The cause after the timer call; a refused one leaves it.
-    fn timer_cause(self, refusal: u64, time: Micros) -> u64
-        ensures { result ≡ pick (eqb refusal 0) (standing self.cause (pick (timer_due self time) 5 0)) self.cause }
+    fn timer_cause(self, accepted: bool, time: Micros) -> u64
+        ensures { result ≡ pick accepted (standing self.cause (pick (timer_due self time) 5 0)) self.cause }
     {
-        if refusal != 0 {
-            return self.cause;
-        }
-        if self.timer_due(time) {
+        if accepted && self.timer_due(time) {
             return standing(self.cause, 5);
         }
         self.cause
@@ -168,8 +163,9 @@ impl Receiver {
     pub fn timer(self, time: Micros) -> Answer
         ensures { result ≡ timer_call self time }
     {
-        let result = self.timer_refusal(time);
-        let cause = self.timer_cause(result, time);
+        let checked = self.check_timer(time);
+        let cause = self.timer_cause(checked.is_ok(), time);
+        let result = wire::refusal_number(&checked);
         let mut next = self;
         next.cause = cause;
         Answer { result, next }
@@ -181,26 +177,22 @@ impl Receiver {
         ensures { result ≡ threshold_call self sequence threshold delay reordering }
     {
         if !self.consistent() {
-            return Heard::refused(1, self);
+            return Heard::refused(Refusal::Inconsistent, self);
         }
         if !numbers::all_small(sequence, threshold, delay.0, reordering) {
-            return Heard::refused(5, self);
+            return Heard::refused(Refusal::TooLarge, self);
         }
-        let end = sequence + 1;
-        let agreed = Agreed {
+        let mut next = self;
+        next.agreed = Agreed {
             threshold,
             reordering,
             delay,
-            sequence: end,
+            sequence: sequence + 1,
         };
-        let mut next = self;
-        next.agreed = agreed;
-        let limits = self.limits;
-        if !limits.allow(delay) {
-            return Heard::refused(4, self);
+        if !self.limits.allow(delay) {
+            return Heard::refused(Refusal::DelayRule, self);
         }
-        let before = self.agreed;
-        if sequence < before.sequence {
+        if sequence < self.agreed.sequence {
             return Heard::stale(self);
         }
         Heard {

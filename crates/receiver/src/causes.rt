@@ -6,8 +6,7 @@ ghost use Rattle.seen.specs.Received.{over};
 ghost use Rattle.receiver.specs.Packet.{InRange, out_of_order, gap_reached, order, congestion, first_cause, cause_after};
 
 use crate::{Pending, Receiver};
-use seen::{Seen, numbers};
-use window::Missing;
+use seen::Seen;
 
 // R = 1 (RFC 9000 13.2.1): below the earlier H, or above it with a number between missing.
 fn out_of_order(words: &[u64; 16], seen: Seen, number: u64, highest: u64) -> bool
@@ -17,10 +16,7 @@ fn out_of_order(words: &[u64; 16], seen: Seen, number: u64, highest: u64) -> boo
     if number <= highest {
         return number + 1 < highest;
     }
-    match seen.first_missing_in(words, highest, number) {
-        Missing::At(_) => true,
-        Missing::Nothing => false,
-    }
+    seen.first_missing_in(words, highest, number).is_some()
 }
 
 // R from 2 up: the smallest unreported missing number m has U - m >= R.
@@ -28,10 +24,10 @@ fn gap_reached(words: &[u64; 16], seen: Seen, reach: u64, acknowledged: u64, end
     requires { (reach < places) × InRange seen end }
     ensures { result ≡ gap_reached (over words.now seen) reach acknowledged end }
 {
-    let from = numbers::minus_or_zero(acknowledged, reach);
+    let from = acknowledged.saturating_sub(reach);
     match seen.first_missing_in(words, from, end - 1) {
-        Missing::At(place) => place + seen.end + reach <= end + window::LAST,
-        Missing::Nothing => false,
+        Some(place) => place + seen.end + reach <= end + window::LAST,
+        None => false,
     }
 }
 
@@ -62,18 +58,7 @@ impl Receiver {
     fn congestion(self, ce: bool) -> bool
         ensures { result ≡ congestion self ce }
     {
-        if !ce {
-            return false;
-        }
-        let agreed = self.agreed;
-        if agreed.sequence == 0 {
-            return true;
-        }
-        let seen = self.seen;
-        if seen.end == 0 {
-            return true;
-        }
-        self.ce == 0
+        ce && (self.agreed.sequence == 0 || self.seen.end == 0 || self.ce == 0)
     }
 
     // The first line that holds for an ack-eliciting packet; the lent words, seen and pending are as it leaves them.

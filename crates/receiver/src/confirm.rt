@@ -4,6 +4,7 @@ ghost use Rattle.receiver.specs.Confirm.{confirm_call};
 
 use crate::{Answer, Receiver};
 use seen::numbers;
+use wire::Refusal;
 
 impl Receiver {
     // The ACK with largest k is confirmed: numbers up to k are reported no more, L itself excepted.
@@ -12,18 +13,18 @@ impl Receiver {
         ensures { result ≡ confirm_call self k }
     {
         if !self.consistent() {
-            return Answer::refused(1, self);
+            return Answer::refused(Refusal::Inconsistent, self);
         }
         if !numbers::is_small(k) {
-            return Answer::refused(5, self);
+            return Answer::refused(Refusal::TooLarge, self);
         }
         let before = self.seen;
         if before.end == 0 {
-            return Answer::refused(8, self);
+            return Answer::refused(Refusal::NothingReceived, self);
         }
         // A is kept as an end: k is above A, or A is absent.
         if self.acknowledged <= k {
-            return Answer::refused(19, self);
+            return Answer::refused(Refusal::NotAcknowledged, self);
         }
         let seen = before.confirm(k);
         let mut next = self;

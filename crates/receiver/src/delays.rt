@@ -11,22 +11,17 @@ impl Millis {
         requires { self.0 < 16384 }
         ensures { result ≡ micros_of self }
     {
-        let n = self.0;
-        Micros(n * 1000)
+        Micros(self.0 * 1000)
     }
 }
 
 impl Limits {
     // Whether the maximum is below 16,384 ms and the minimum not above it.
+    #[tactic(auto, unfolding(crate::specs::Record::limits_rule))]
     pub(crate) fn allowed(self) -> bool
         ensures { result ≡ limits_rule self }
     {
-        let maximum = self.maximum;
-        if 16384 <= maximum.0 {
-            return false;
-        }
-        let most = maximum.micros();
-        self.minimum.0 <= most.0
+        self.maximum.0 < 16384 && self.minimum.0 <= self.maximum.micros().0
     }
 
     // Whether a delay is below 16,384,000 microseconds and not below the minimum.
@@ -34,9 +29,6 @@ impl Limits {
     pub(crate) fn allow(self, delay: Micros) -> bool
         ensures { result ≡ delay_rule self delay }
     {
-        if 16384000 <= delay.0 {
-            return false;
-        }
-        self.minimum.0 <= delay.0
+        delay.0 < 16384000 && self.minimum.0 <= delay.0
     }
 }

@@ -5,9 +5,11 @@
 #![tactic(auto)]
 
 ghost use Rattle.std.specs.Prelude.{◌≡◌};
+ghost use Rattle.wire.specs.Refusals.{number_of};
 
 use ecn::Totals;
 use seen::{Micros, Seen};
+use wire::Refusal;
 
 mod calls;
 mod causes;
@@ -22,7 +24,7 @@ mod write;
 #[derive(Clone, Copy)]
 pub struct Millis(pub u64);
 
-// What may be absent is kept as an end: one past the number, and 0 for none.
+// What may be absent is kept as an end, one past the number, and 0 for none: the C interface has these records.
 
 // What came since the last written ACK.
 #[repr(C)]
@@ -78,7 +80,7 @@ pub struct Receiver {
     pub highest: u64,
     // The last accepted packet had the CE mark exactly where this is not 0; a packet stores 1 or 0.
     pub ce: u64,
-    // The cause says why an acknowledgment is due: 0 it is not, 1 IMMEDIATE_ACK, 2 count, 3 order, 4 congestion, 5 timer.
+    // The cause says why an acknowledgment is due, a number for the C interface: 0 it is not, 1 IMMEDIATE_ACK, 2 count, 3 order, 4 congestion, 5 timer.
     pub cause: u64,
     // It counts the accepted packets by their marks.
     pub totals: Totals,
@@ -94,11 +96,11 @@ pub struct Answer {
 
 impl Answer {
     // A refusal's number and the record as it came.
-    fn refused(res: u64, kept: Receiver) -> Answer
-        ensures { result ≡ record { result = res; next = kept } }
+    fn refused(refusal: Refusal, kept: Receiver) -> Answer
+        ensures { result ≡ record { result = number_of refusal; next = kept } }
     {
         Answer {
-            result: res,
+            result: refusal.number(),
             next: kept,
         }
     }
@@ -122,7 +124,7 @@ pub enum Verdict {
     Accepted,
     // Its sequence is not above the largest processed: nothing changes.
     Stale,
-    // The paper's number.
+    // The paper's number, as Answer tells it (the C interface): a log's line takes either.
     Refused(u64),
 }
 

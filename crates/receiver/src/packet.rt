@@ -1,7 +1,7 @@
 // The packet call: 1, 5, then 6 or 7; an accepted packet is marked, and an ack-eliciting one may set a cause.
 ghost use Rattle.std.specs.Prelude.{◌≡◌, ◌+◌, ◌≤◌, true};
-ghost use Rattle.wire.specs.Bytes.{pick};
 ghost use Rattle.wire.specs.Numbers.{limit};
+ghost use Rattle.wire.specs.Refusals.{refusal_number};
 ghost use Rattle.receiver.specs.Record.{consistent};
 ghost use Rattle.receiver.specs.Packet.{record_over, answer_over, packet_refusal, pending_after, packet_after, packet_call};
 
@@ -9,6 +9,7 @@ use crate::{Answer, Pending, Receiver};
 use ecn::Mark;
 use seen::{Micros, Seen, numbers};
 use window::Window;
+use wire::Refusal;
 
 impl Pending {
     // With one ack-eliciting packet more; at 2^62 the count stays.
@@ -17,7 +18,7 @@ impl Pending {
         requires { (number ≤ limit) × (self.count ≤ limit + 1) }
         ensures { result ≡ pending_after self number time }
     {
-        let end = numbers::larger_of(self.end, number + 1);
+        let end = self.end.max(number + 1);
         let count = self.count;
         if count == 0 {
             return Pending {
@@ -39,35 +40,28 @@ impl Pending {
     }
 }
 
-// A CE mark as the record keeps it.
-fn as_number(ce: bool) -> u64
-    ensures { result ≡ pick ce 1 0 }
-{
-    if ce { 1 } else { 0 }
-}
-
 impl Receiver {
-    // Why a packet is refused, or 0.
-    fn packet_refusal(self, words: &[u64; 16], number: u64, time: Micros) -> u64
-        ensures { result ≡ packet_refusal (record_over words.now self) number time }
+    // Whether a packet is accepted.
+    fn check_packet(self, words: &[u64; 16], number: u64, time: Micros) -> Result<(), Refusal>
+        ensures { refusal_number result ≡ packet_refusal (record_over words.now self) number time }
     {
         if !self.rest_consistent() {
-            return 1;
+            return Err(Refusal::Inconsistent);
         }
         let seen = self.seen;
         if !seen.numbers_obey() {
-            return 1;
+            return Err(Refusal::Inconsistent);
         }
         if !seen.marks_fit(words) {
-            return 1;
+            return Err(Refusal::Inconsistent);
         }
         if !numbers::is_small(number) {
-            return 5;
+            return Err(Refusal::TooLarge);
         }
         if !numbers::is_small(time.0) {
-            return 5;
+            return Err(Refusal::TooLarge);
         }
-        seen.refusal_in(words, number)
+        seen.check_in(words, number)
     }
 
     // The record with an accepted packet, which is marked in the lent words.
@@ -87,7 +81,7 @@ impl Receiver {
         let earlier = self.totals;
         let totals = earlier.counted(mark);
         let ce = mark.is_ce();
-        let last = as_number(ce);
+        let last = u64::from(ce);
         let waiting = self.pending;
         if !eliciting {
             let agreed = self.agreed;
@@ -105,7 +99,7 @@ impl Receiver {
             };
         }
         let pending = waiting.with(number, time);
-        let highest = numbers::larger_of(self.highest, number + 1);
+        let highest = self.highest.max(number + 1);
         let cause = self.cause_after(words, number, ce, seen, pending);
         let agreed = self.agreed;
         let limits = self.limits;
@@ -133,12 +127,13 @@ impl Receiver {
     ) -> Answer
         ensures { answer_over words.new result ≡ packet_call (record_over words.old self) number time eliciting mark }
     {
-        let refusal = self.packet_refusal(words, number, time);
-        if refusal != 0 {
-            return Answer::refused(refusal, self);
+        match self.check_packet(words, number, time) {
+            Ok(()) => Answer {
+                result: 0,
+                next: self.with(words, number, time, eliciting, mark),
+            },
+            Err(refusal) => Answer::refused(refusal, self),
         }
-        let next = self.with(words, number, time, eliciting, mark);
-        Answer { result: 0, next }
     }
 
     // A packet arrives: its number, its time, whether it is ack-eliciting, and its mark.

@@ -1,18 +1,20 @@
 // The write call: the ACK frame of what was received, and nothing is left to acknowledge.
 ghost use Rattle.std.specs.Prelude.{◌≡◌};
+ghost use Rattle.wire.specs.Refusals.{number_of};
 ghost use Rattle.receiver.specs.Write.{after_write, write_answer, write_bytes};
 
-use crate::{Pending, Receiver, Wrote};
+use crate::{Receiver, Wrote};
 use ecn::Kind;
 use seen::Micros;
+use wire::Refusal;
 
 impl Wrote {
     // A refusal's number and the record as it came.
-    fn refused(res: u64, kept: Receiver) -> Wrote
-        ensures { result ≡ record { result = res; length = 0; next = kept } }
+    fn refused(refusal: Refusal, kept: Receiver) -> Wrote
+        ensures { result ≡ record { result = number_of refusal; length = 0; next = kept } }
     {
         Wrote {
-            result: res,
+            result: refusal.number(),
             length: 0,
             next: kept,
         }
@@ -24,17 +26,10 @@ impl Receiver {
     fn after_write(self) -> Receiver
         ensures { result ≡ after_write self }
     {
-        let seen = self.seen;
-        let before = self.pending;
-        let first = before.first;
-        let pending = Pending {
-            count: 0,
-            end: 0,
-            first,
-        };
         let mut next = self;
-        next.pending = pending;
-        next.acknowledged = seen.end;
+        next.pending.count = 0;
+        next.pending.end = 0;
+        next.acknowledged = self.seen.end;
         next.cause = 0;
         next
     }
@@ -44,20 +39,16 @@ impl Receiver {
         ensures { (result ≡ write_answer self time kind buf.old) × (buf.new ≡ write_bytes self time kind buf.old) }
     {
         if !self.rest_consistent() {
-            return Wrote::refused(1, self);
+            return Wrote::refused(Refusal::Inconsistent, self);
         }
-        let seen = self.seen;
-        let totals = self.totals;
-        let tail = totals.said(kind);
-        let acked = ack::write_ack(seen, time, tail, buf);
-        if acked.result != 0 {
-            return Wrote::refused(acked.result, self);
-        }
-        let next = self.after_write();
-        Wrote {
-            result: 0,
-            length: acked.length,
-            next,
+        let tail = self.totals.said(kind);
+        match ack::write_ack(self.seen, time, tail, buf) {
+            Ok(length) => Wrote {
+                result: 0,
+                length: length as u64,
+                next: self.after_write(),
+            },
+            Err(refusal) => Wrote::refused(refusal, self),
         }
     }
 }

@@ -22,7 +22,7 @@ use Rattle.report.proofs.Exactly.{report-reads, sound-judged}
 none-refused : (p : Profile) (s : List ℕ) (r : Reading) → ((report_of r).refusal ≡ 0 → ⊥) → entries_in p s r ≡ []
 unfolding report_of entries_in
 none-refused p s (Whole ns at) n = absurd (n refl)
-none-refused p s (Stopped m) n = refl
+none-refused p s (Stopped refusal) n = refl
 
 module _ (p : Profile) (s : List ℕ) (e : (read_report p s).refusal ≡ 0) where
   x : Sound p s

@@ -8,7 +8,9 @@ use native.Mathlib.Omega.{arith}
 use borrow.Author.Tests.{le-leb, le-ltb, eq-eqb, ne_eqb}
 use lib.ListN.{length, get_or, take, drop, length-append}
 use lib.Seq.{take_all, take_at, drop_at, drop-append_seam}
+use Rattle.std.specs.Prelude.{Result, Ok}
 use Rattle.wire.specs.Numbers.{encode_all}
+use Rattle.wire.specs.declared.Refusal.{Refusal}
 use Rattle.wire.specs.Standing.{StandShortest}
 use Rattle.wire.proofs.Small.{all_small_lem}
 use Rattle.wire.proofs.Standing.{encoded-short}
@@ -21,12 +23,11 @@ use Rattle.report.specs.Layout.{at_lost, at_metrics, fixed_numbers}
 use Rattle.report.specs.Average.{stored_of}
 use Rattle.report.specs.Header.{judge_later, judge, first_fault, wanted_of, count_of, pairs, numbers_of}
 use Rattle.report.specs.Reader.{Whole, part_of, judge_entries, report_reading, report_of, read_report, entries_in, entries_of}
-use Rattle.report.specs.Writer.{write_answer, report_bytes, stored_as, write_bytes}
+use Rattle.report.specs.Writer.{done, write_answer, report_bytes, stored_as, write_bytes}
 use Rattle.report.specs.Exactly.{Headed}
 use Rattle.report.specs.EachWay.{ReadsBack, WriteRead, Keeps, WriteKeeps}
 use Rattle.report.specs.declared.Header.{Header}
 use Rattle.report.specs.declared.Written.{Written}
-use Rattle.report.specs.declared.Written.TheVariants.{Done}
 use Rattle.report.proofs.Places.{metrics-small}
 use Rattle.report.proofs.Sent.{length_pairs, count-last, metrics-there, header-sent}
 use Rattle.report.proofs.Following.{fault-at, fault-last, headed-whole}
@@ -34,7 +35,7 @@ use Rattle.report.proofs.Planning.{Accepted, plan-accepted, kept-given, kept-max
 
 -- ---- the header's numbers, and the entry count behind them
 
-module _ (p : Profile) (h : Header) (e : first_fault p (numbers_of p h) ≡ 0) where
+module _ (p : Profile) (h : Header) (e : first_fault p (numbers_of p h) ≡ Ok tt) where
   pub metrics-few : h.metrics ≤ most_metrics p
   unfolding numbers_of
   metrics-few =
@@ -46,14 +47,14 @@ module _ (p : Profile) (h : Header) (e : first_fault p (numbers_of p h) ≡ 0) w
   length-numbers = omega (arith, length_pairs (min h.metrics (most_metrics p)) 0 h.kinds h.values, min-eq_left metrics-few)
 
   module _ (k : ℕ) (l : k ≤ most_entries) where
-    last-good : judge p (numbers_of p h) k ≡ 0
+    last-good : judge p (numbers_of p h) k ≡ Ok tt
     unfolding judge judge_later
     last-good =
         let n = length-numbers in
         let i : (length (numbers_of p h) - fixed_numbers) / 2 ≡ get_or (numbers_of p h) at_metrics 0 = omega (arith, rw append-nil at (metrics-there p h [])) in
         rw (ne_eqb (length (numbers_of p h)) at_lost (λ q. omega arith), ne_eqb (length (numbers_of p h)) at_metrics (λ q. omega arith), le-ltb (length (numbers_of p h)) fixed_numbers (omega arith), ne_eqb (length (numbers_of p h) % 2) 1 (λ q. omega arith), eq-eqb ((length (numbers_of p h) - fixed_numbers) / 2) (get_or (numbers_of p h) at_metrics 0) i, le-leb k most_entries l)
 
-    pub all-good : first_fault p (numbers_of p h ++ (k ∷ [])) ≡ 0
+    pub all-good : first_fault p (numbers_of p h ++ (k ∷ [])) ≡ Ok tt
     all-good = fault-last p [] (numbers_of p h) k e last-good
 
     pub all_wanted : length (numbers_of p h ++ (k ∷ [])) ≡ wanted_of p (numbers_of p h ++ (k ∷ []))
@@ -99,13 +100,13 @@ module _ (p : Profile) (h : Header) (entries : List ℕ) (maximum room next kept
 
 -- ---- the lent buffer
 
-module _ (p : Profile) (h : Header) (entries : List ℕ) (maximum : ℕ) (xs : List ℕ) (next kept : ℕ) (d : Done next kept ≡ write_answer p h entries maximum (length xs)) where
+module _ (p : Profile) (h : Header) (entries : List ℕ) (maximum : ℕ) (xs : List ℕ) (next kept : ℕ) (d : done next kept ≡ write_answer p h entries maximum (length xs)) where
   a : Accepted p (numbers_of p h) entries maximum (length xs) next kept
   a = plan-accepted p (numbers_of p h) entries maximum (length xs) next kept d
 
   buffer : write_bytes p h entries maximum xs ≡ report_bytes p (numbers_of p h) entries kept ++ drop (0 + length (report_bytes p (numbers_of p h) entries kept)) xs
   unfolding stored_as
-  buffer = ap (λ (w : Written). stored_as p w (numbers_of p h) entries xs) (sym d)
+  buffer = ap (λ (w : Result Written Refusal). stored_as p w (numbers_of p h) entries xs) (sym d)
 
   long : length (report_bytes p (numbers_of p h) entries kept) ≡ next
   long = written-length p h entries maximum (length xs) next kept a

@@ -6,19 +6,21 @@ use mathlib.Core.Logic.{inl, inr}
 use mathlib.Core.List.{List, [], ◌∷◌}
 use borrow.Author.Tests.{eqb-false}
 use lib.ListN.{length}
+use Rattle.std.specs.Prelude.{Result, Err}
 use Rattle.wire.specs.Exactly.{OneOf}
+use Rattle.wire.specs.Refusals.{refusal_number}
+use Rattle.wire.specs.declared.Refusal.{Refusal}
+use Rattle.wire.specs.declared.Refusal.TheVariants.{OtherProfile}
 use Rattle.entries.specs.Profiles.{number_of, Other}
 use Rattle.entries.specs.declared.Profile.{Profile}
 use Rattle.entries.proofs.Profiles.{Which, known, other as unknown, which, of-known, of_other}
 use Rattle.report.specs.Header.{numbers_of}
 use Rattle.report.specs.Reader.{Stopped, report_of, read_report, read_by}
 use Rattle.report.specs.Writer.{write_answer, answer_by, write_bytes, bytes_by}
-use Rattle.report.specs.Refusals.{written_refusal}
 use Rattle.report.specs.Exactly.{By, ReaderRows, WriterRows, ReportReadsBy, ReportWritesBy, ReportUnchanged}
 use Rattle.report.specs.declared.Header.{Header}
 use Rattle.report.specs.declared.Report.{Report}
 use Rattle.report.specs.declared.Written.{Written}
-use Rattle.report.specs.declared.Written.TheVariants.{Refused}
 use Rattle.report.proofs.Exactly.{report-reads}
 use Rattle.report.proofs.Refusing.{report-writes, unchanged}
 
@@ -37,8 +39,8 @@ pub report-reads-by : ReportReadsBy
 unfolding report_of
 report-reads-by profile s =
     by (λ p. ReaderRows p s) (0 ∷ 2 ∷ 10 ∷ 11 ∷ 12 ∷ 13 ∷ 15 ∷ []) (λ p n r. r.others) none profile (read_by profile s).refusal
-    (λ p e. rw (of-known profile (report_of (Stopped 18)) (λ p. read_report p s) p e) (report-reads p s))
-    (λ o. ap (λ (r : Report). r.refusal) (of_other profile (report_of (Stopped 18)) (λ p. read_report p s) o))
+    (λ p e. rw (of-known profile (report_of (Stopped OtherProfile)) (λ p. read_report p s) p e) (report-reads p s))
+    (λ o. ap (λ (r : Report). r.refusal) (of_other profile (report_of (Stopped OtherProfile)) (λ p. read_report p s) o))
   where
     none : OneOf 18 (0 ∷ 2 ∷ 10 ∷ 11 ∷ 12 ∷ 13 ∷ 15 ∷ []) → ⊥
     none (inl e) = eqb-false 18 0 refl e
@@ -51,20 +53,20 @@ report-reads-by profile s =
     none (inr (inr (inr (inr (inr (inr (inr x))))))) = elim x [ ]
 
 module _ (profile : ℕ) (h : Header) (entries : List ℕ) (maximum room : ℕ) where
-  abbrev answer : Profile → Written
+  abbrev answer : Profile → Result Written Refusal
   answer p = write_answer p h entries maximum room
 
   answer-known : (p : Profile) → profile ≡ number_of p → answer_by profile h entries maximum room ≡ answer p
-  answer-known p e = of-known profile (Refused 18) answer p e
+  answer-known p e = of-known profile (Err OtherProfile) answer p e
 
-  answer-other : Other profile → answer_by profile h entries maximum room ≡ Refused 18
-  answer-other o = of_other profile (Refused 18) answer o
+  answer-other : Other profile → answer_by profile h entries maximum room ≡ Err OtherProfile
+  answer-other o = of_other profile (Err OtherProfile) answer o
 
 pub report-writes-by : ReportWritesBy
 report-writes-by profile h entries maximum room =
-    by (λ p. WriterRows p h entries maximum room) (0 ∷ 5 ∷ 9 ∷ 10 ∷ 11 ∷ 12 ∷ []) (λ p n r. r.others) none profile (written_refusal (answer_by profile h entries maximum room))
+    by (λ p. WriterRows p h entries maximum room) (0 ∷ 5 ∷ 9 ∷ 10 ∷ 11 ∷ 12 ∷ []) (λ p n r. r.others) none profile (refusal_number (answer_by profile h entries maximum room))
     (λ p e. rw (answer-known profile h entries maximum room p e) (report-writes p h entries maximum room))
-    (λ o. ap written_refusal (answer-other profile h entries maximum room o))
+    (λ o. ap refusal_number (answer-other profile h entries maximum room o))
   where
     none : OneOf 18 (0 ∷ 5 ∷ 9 ∷ 10 ∷ 11 ∷ 12 ∷ []) → ⊥
     none (inl e) = eqb-false 18 0 refl e

@@ -11,6 +11,9 @@ use lib.Arith.{lt_of_le-ne}
 use lib.Dec.{leb, eqb}
 use lib.ListN.{length}
 use Rattle.wire.specs.Bytes.{pick}
+use Rattle.wire.specs.Refusals.{number_of, refusal_number}
+use Rattle.wire.specs.declared.Refusal.{Refusal}
+use Rattle.wire.specs.declared.Refusal.TheVariants.{Ends, BrokenCount, OtherTotal, BrokenEntry, BytesRemain, LongerForm}
 use Rattle.wire.specs.Exactly.{OneOf}
 use Rattle.entries.specs.Profiles.{record_size}
 use Rattle.entries.specs.declared.Profile.{Profile}
@@ -19,6 +22,7 @@ use Rattle.entries.specs.Entries.{entries_good}
 use Rattle.report.specs.Reader.{Reading, Whole, Stopped, read_numbers, part_of, judge_entries, report_reading, report_of, read_report}
 use Rattle.report.specs.Exactly.{EndsInside, Longer, Faulty, TooFew, BadEntry, Behind, Sound, ReportReads}
 use Rattle.report.proofs.Rows.{Table, end, row, Row, one_of}
+use Rattle.report.proofs.Heeding.{number-some, refused-as}
 use Rattle.report.proofs.Places.{place-judged}
 use Rattle.report.proofs.Following.{End, inside, longer, fault, header, numbers-end, headed-whole, open-ends, open-longer, open-fault}
 
@@ -37,7 +41,7 @@ module _ (p : Profile) where
 
   refusal_in : Reading → ℕ
   refusal_in (Whole ns at) = 0
-  refusal_in (Stopped n) = n
+  refusal_in (Stopped refusal) = number_of refusal
 
   refusal_is : (r : Reading) → (report_of r).refusal ≡ refusal_in r
   unfolding report_of refusal_in
@@ -47,14 +51,14 @@ module _ (p : Profile) where
   -- every reading ends in a row
   in_row : (s : List ℕ) (r : Reading) → End p s r → Row (table s) (refusal_in (judge_entries p s r))
   unfolding refusal_in judge_entries
-  in_row s (Stopped n) (inside x) = inl x
-  in_row s (Stopped n) (longer x) = x
-  in_row s (Stopped n) (fault f z) = go (place-judged p f.ns f.v).others
+  in_row s (Stopped refusal) (inside x) = inl x
+  in_row s (Stopped refusal) (longer x) = x
+  in_row s (Stopped refusal) (fault f) = go (place-judged p f.ns f.v).others
     where
-      go : OneOf (judge p f.ns f.v) (0 ∷ 10 ∷ 11 ∷ []) → Row (table s) n
-      go (inl e) = absurd (z (sym f.fault ∙ e))
-      go (inr (inl e)) = let q : n ≡ 10 = sym f.fault ∙ e in subst (Row (table s)) (sym q) (subst (λ (m : ℕ). Faulty p m s) q f)
-      go (inr (inr (inl e))) = let q : n ≡ 11 = sym f.fault ∙ e in subst (Row (table s)) (sym q) (subst (λ (m : ℕ). Faulty p m s) q f)
+      go : OneOf (refusal_number (judge p f.ns f.v)) (0 ∷ 10 ∷ 11 ∷ []) → Row (table s) (number_of refusal)
+      go (inl e) = absurd (number-some refusal (sym f.fault ∙ e))
+      go (inr (inl e)) = let q : number_of refusal ≡ 10 = sym f.fault ∙ e in subst (Row (table s)) (sym q) (subst (λ (m : ℕ). Faulty p m s) q f)
+      go (inr (inr (inl e))) = let q : number_of refusal ≡ 11 = sym f.fault ∙ e in subst (Row (table s)) (sym q) (subst (λ (m : ℕ). Faulty p m s) q f)
       go (inr (inr (inr x))) = elim x [ ]
   in_row s (Whole ns at) (header h) = go (leb end (length s)) (entries_good p (part_of p s ns at)) (eqb end (length s)) refl refl refl
     where
@@ -62,7 +66,7 @@ module _ (p : Profile) where
       end = at + record_size p * count_of ns
 
       go : (a b c : Bool) → leb (at + record_size p * count_of ns) (length s) ≡ a → entries_good p (part_of p s ns at) ≡ b → eqb (at + record_size p * count_of ns) (length s) ≡ c
-          → Row (table s) (refusal_in (pick a (pick b (pick c (Whole ns at) (Stopped 13)) (Stopped 12)) (Stopped 2)))
+          → Row (table s) (refusal_in (pick a (pick b (pick c (Whole ns at) (Stopped BytesRemain)) (Stopped BrokenEntry)) (Stopped Ends)))
       go true true true f q r = record { ns = ns; at = at; header = h; good = q; end = eqb-true (at + record_size p * count_of ns) (length s) r }
       go true true false f q r =
           let l : at + record_size p * count_of ns ≤ length s = leb-true (at + record_size p * count_of ns) (length s) f in
@@ -79,15 +83,15 @@ module _ (p : Profile) where
 
     to_inside : EndsInside p s → (read_report p s).refusal ≡ 2
     unfolding refusal_in judge_entries
-    to_inside x = by (Stopped 2) (open-ends p s x.ns x.at x.far x.ends)
+    to_inside x = by (Stopped Ends) (open-ends p s x.ns x.at x.far x.ends)
 
     to-longer : Longer p s → (read_report p s).refusal ≡ 15
     unfolding refusal_in judge_entries
-    to-longer x = by (Stopped 15) (open-longer p s x.ns x.at x.far x.v x.next x.reads)
+    to-longer x = by (Stopped LongerForm) (open-longer p s x.ns x.at x.far x.v x.next x.reads)
 
-    to-fault : (n : ℕ) → (n ≡ 0 → ⊥) → Faulty p n s → (read_report p s).refusal ≡ n
+    to-fault : (refusal : Refusal) → Faulty p (number_of refusal) s → (read_report p s).refusal ≡ number_of refusal
     unfolding refusal_in judge_entries
-    to-fault n z f = by (Stopped n) (open-fault p s f.ns f.at f.far f.v f.next n f.reads f.fault z)
+    to-fault refusal f = by (Stopped refusal) (open-fault p s f.ns f.at f.far f.v f.next refusal f.reads (refused-as (judge p f.ns f.v) refusal f.fault))
 
     to-few : TooFew p s → (read_report p s).refusal ≡ 2
     unfolding refusal_in judge_entries
@@ -121,8 +125,8 @@ module _ (p : Profile) where
 pub report-reads : ReportReads
 report-reads p s = record {
   two = (λ e. at_row p s 2 e, ⊎_elim (to_inside p s) (to-few p s));
-  ten = (λ e. at_row p s 10 e, to-fault p s 10 (eqb-false 10 0 refl));
-  eleven = (λ e. at_row p s 11 e, to-fault p s 11 (eqb-false 11 0 refl));
+  ten = (λ e. at_row p s 10 e, to-fault p s BrokenCount);
+  eleven = (λ e. at_row p s 11 e, to-fault p s OtherTotal);
   twelve = (λ e. at_row p s 12 e, to-bad p s);
   thirteen = (λ e. at_row p s 13 e, to-behind p s);
   fifteen = (λ e. at_row p s 15 e, to-longer p s);

@@ -6,14 +6,17 @@ use mathlib.Core.Bool.{Bool, true, false}
 use mathlib.Core.List.{List, [], ◌∷◌, ◌++◌, append_assoc, append-nil}
 use native.Mathlib.Nat.{min-le_right, zero-add, le_refl}
 use native.Mathlib.Omega.{arith}
-use borrow.Author.Tests.{le-leb, lt-leb, ne_eqb, leb-true, leb-false, eqb-true, eqb-false}
-use lib.Dec.{leb, eqb}
+use borrow.Author.Tests.{le-leb, lt-leb, leb-true, leb-false}
+use lib.Dec.{leb}
 use lib.ListN.{length, get_or, length-append, get_or-append, get_or-eq_default}
+use Rattle.std.specs.Prelude.{Result, Ok, Err}
 use Rattle.wire.specs.Bytes.{pick}
-use Rattle.wire.specs.Fields.{formed}
+use Rattle.wire.specs.Fields.{found, formed}
 use Rattle.wire.specs.Numbers.{read_number}
 use Rattle.wire.specs.declared.Number.{Number}
-use Rattle.wire.specs.declared.Number.TheVariants.{Value, Ends}
+use Rattle.wire.specs.Refusals.{number_of, refusal_number}
+use Rattle.wire.specs.declared.Refusal.{Refusal}
+use Rattle.wire.specs.declared.Refusal.TheVariants.{Ends, LongerForm}
 use Rattle.wire.specs.Standing.{StandShortest, no_more, short}
 use Rattle.wire.proofs.Lengths.{split}
 use Rattle.wire.proofs.Standing.{short-last}
@@ -22,8 +25,9 @@ use Rattle.entries.specs.Profiles.{most_metrics}
 use Rattle.entries.specs.declared.Profile.{Profile}
 use Rattle.entries.specs.declared.Profile.TheVariants.{One, Two}
 use Rattle.report.specs.Limits.{metric_places, most_numbers}
-use Rattle.report.specs.Header.{judge, judge_field, fault_after, first_fault, wanted_of}
+use Rattle.report.specs.Header.{heeding, judge, judge_field, fault_after, first_fault, wanted_of}
 use Rattle.report.specs.Reader.{Reading, Whole, Stopped, numbers_from, read_numbers}
+use Rattle.report.proofs.Heeding.{number-refused}
 use Rattle.report.specs.Exactly.{Open, Headed, EndsInside, Longer, Faulty}
 
 -- a header has places for the metrics of every profile
@@ -48,46 +52,46 @@ module _ (p : Profile) where
 
   -- ---- faults of numbers in two parts
 
-  pub fault-append : (ns us vs : List ℕ) → fault_after p ns us ≡ 0 → fault_after p ns (us ++ vs) ≡ fault_after p (ns ++ us) vs
+  pub fault-append : (ns us vs : List ℕ) → fault_after p ns us ≡ Ok tt → fault_after p ns (us ++ vs) ≡ fault_after p (ns ++ us) vs
   unfolding fault_after
   fault-append ns [] vs e = ap (λ (l : List ℕ). fault_after p l vs) (sym (append-nil ns))
-  fault-append ns (u ∷ us) vs e = go (fault-append (ns ++ (u ∷ [])) us vs) (eqb (judge p ns u) 0) refl e
+  fault-append ns (u ∷ us) vs e = go (fault-append (ns ++ (u ∷ [])) us vs) (judge p ns u) e
     where
-      go : (fault_after p (ns ++ (u ∷ [])) us ≡ 0 → fault_after p (ns ++ (u ∷ [])) (us ++ vs) ≡ fault_after p ((ns ++ (u ∷ [])) ++ us) vs) → (b : Bool) → eqb (judge p ns u) 0 ≡ b
-          → pick b (fault_after p (ns ++ (u ∷ [])) us) (judge p ns u) ≡ 0 → pick b (fault_after p (ns ++ (u ∷ [])) (us ++ vs)) (judge p ns u) ≡ fault_after p (ns ++ (u ∷ us)) vs
-      go more true t e = more e ∙ ap (λ (l : List ℕ). fault_after p l vs) (append_assoc ns (u ∷ []) us)
-      go more false t e = absurd (eqb-false (judge p ns u) 0 t e)
+      go : (fault_after p (ns ++ (u ∷ [])) us ≡ Ok tt → fault_after p (ns ++ (u ∷ [])) (us ++ vs) ≡ fault_after p ((ns ++ (u ∷ [])) ++ us) vs) → (x : Result Unit Refusal)
+          → heeding x Err (fault_after p (ns ++ (u ∷ [])) us) ≡ Ok tt → heeding x Err (fault_after p (ns ++ (u ∷ [])) (us ++ vs)) ≡ fault_after p (ns ++ (u ∷ us)) vs
+      go more (Ok t) e = more e ∙ ap (λ (l : List ℕ). fault_after p l vs) (append_assoc ns (u ∷ []) us)
+      go more (Err refusal) e = absurd (cc)
 
   -- the first is good, and so are those after it
-  pub fault-first : (ns : List ℕ) (v : ℕ) (vs : List ℕ) → fault_after p ns (v ∷ vs) ≡ 0 → (judge p ns v ≡ 0) × (fault_after p (ns ++ (v ∷ [])) vs ≡ 0)
+  pub fault-first : (ns : List ℕ) (v : ℕ) (vs : List ℕ) → fault_after p ns (v ∷ vs) ≡ Ok tt → (judge p ns v ≡ Ok tt) × (fault_after p (ns ++ (v ∷ [])) vs ≡ Ok tt)
   unfolding fault_after
-  fault-first ns v vs e = go (eqb (judge p ns v) 0) refl e
+  fault-first ns v vs e = go (judge p ns v) e
     where
-      go : (b : Bool) → eqb (judge p ns v) 0 ≡ b → pick b (fault_after p (ns ++ (v ∷ [])) vs) (judge p ns v) ≡ 0 → (judge p ns v ≡ 0) × (fault_after p (ns ++ (v ∷ [])) vs ≡ 0)
-      go true t e = (eqb-true (judge p ns v) 0 t, e)
-      go false t e = absurd (eqb-false (judge p ns v) 0 t e)
+      go : (x : Result Unit Refusal) → heeding x Err (fault_after p (ns ++ (v ∷ [])) vs) ≡ Ok tt → (x ≡ Ok tt) × (fault_after p (ns ++ (v ∷ [])) vs ≡ Ok tt)
+      go (Ok t) e = (refl, e)
+      go (Err refusal) e = absurd (cc)
 
   -- each is good after those before it
-  pub fault-at : (ns us : List ℕ) (v : ℕ) (vs : List ℕ) → fault_after p ns (us ++ (v ∷ vs)) ≡ 0 → judge p (ns ++ us) v ≡ 0
+  pub fault-at : (ns us : List ℕ) (v : ℕ) (vs : List ℕ) → fault_after p ns (us ++ (v ∷ vs)) ≡ Ok tt → judge p (ns ++ us) v ≡ Ok tt
   fault-at ns [] v vs e = rw append-nil (fault-first ns v vs e).0
   fault-at ns (u ∷ us) v vs e = ap (λ (l : List ℕ). judge p l v) (sym (append_assoc ns (u ∷ []) us)) ∙ fault-at (ns ++ (u ∷ [])) us v vs (fault-first ns u (us ++ (v ∷ vs)) e).1
 
   -- and so are the first of them
-  pub fault-start : (ns us vs : List ℕ) → fault_after p ns (us ++ vs) ≡ 0 → fault_after p ns us ≡ 0
+  pub fault-start : (ns us vs : List ℕ) → fault_after p ns (us ++ vs) ≡ Ok tt → fault_after p ns us ≡ Ok tt
   unfolding fault_after
   fault-start ns [] vs e = refl
   fault-start ns (u ∷ us) vs e =
       let f = fault-first ns u (us ++ vs) e in
       rw f.0 (fault-start (ns ++ (u ∷ [])) us vs f.1)
 
-  pub fault-last : (ns us : List ℕ) (v : ℕ) → fault_after p ns us ≡ 0 → judge p (ns ++ us) v ≡ 0 → fault_after p ns (us ++ (v ∷ [])) ≡ 0
+  pub fault-last : (ns us : List ℕ) (v : ℕ) → fault_after p ns us ≡ Ok tt → judge p (ns ++ us) v ≡ Ok tt → fault_after p ns (us ++ (v ∷ [])) ≡ Ok tt
   unfolding fault_after
   fault-last ns us v e j = fault-append ns us (v ∷ []) e ∙ rw j
 
   -- ---- reading follows what stands
 
   module _ (s : List ℕ) where
-    pub follow : (vs ns : List ℕ) (n at to : ℕ) → StandShortest s at vs to → fault_after p ns vs ≡ 0 → length (ns ++ vs) ≤ wanted_of p (ns ++ vs)
+    pub follow : (vs ns : List ℕ) (n at to : ℕ) → StandShortest s at vs to → fault_after p ns vs ≡ Ok tt → length (ns ++ vs) ≤ wanted_of p (ns ++ vs)
         → numbers_from p (length vs + n) s at ns ≡ numbers_from p n s to (ns ++ vs)
     unfolding numbers_from
     follow [] ns n at to no_more e h = rw (zero-add, append-nil)
@@ -110,36 +114,39 @@ module _ (p : Profile) where
 
   -- where the reading of numbers can end
   pub data End (s : List ℕ) : Reading → Type 0 where
-    inside : EndsInside p s → End s (Stopped 2)
-    longer : Longer p s → End s (Stopped 15)
-    fault : {n : ℕ} → Faulty p n s → (n ≡ 0 → ⊥) → End s (Stopped n)
+    inside : EndsInside p s → End s (Stopped Ends)
+    longer : Longer p s → End s (Stopped LongerForm)
+    fault : {refusal : Refusal} → Faulty p (number_of refusal) s → End s (Stopped refusal)
     header : {ns : List ℕ} {at : ℕ} → Headed p s ns at → End s (Whole ns at)
 
   module _ (s : List ℕ) where
-    pub ended : (n at : ℕ) (ns : List ℕ) → length ns + n ≡ most_numbers → StandShortest s 0 ns at → first_fault p ns ≡ 0 → length ns ≤ wanted_of p ns → End s (numbers_from p n s at ns)
+    pub ended : (n at : ℕ) (ns : List ℕ) → length ns + n ≡ most_numbers → StandShortest s 0 ns at → first_fault p ns ≡ Ok tt → length ns ≤ wanted_of p ns → End s (numbers_from p n s at ns)
     unfolding numbers_from
     ended zero at ns l st e h = header (record { stand = st; good = e; whole = omega (arith, wanted-most ns) })
     ended (suc n) at ns l st e h = by (ended n) (leb (wanted_of p ns) (length ns)) refl
       where
-        on : ((at : ℕ) (ns : List ℕ) → length ns + n ≡ most_numbers → StandShortest s 0 ns at → first_fault p ns ≡ 0 → length ns ≤ wanted_of p ns → End s (numbers_from p n s at ns))
-            → Open p s ns at → (v next : ℕ) → read_number s at ≡ Value v next true → (b : Bool) → eqb (judge p ns v) 0 ≡ b
-            → End s (pick b (numbers_from p n s next (ns ++ (v ∷ []))) (Stopped (judge p ns v)))
-        on more o v next r true t =
+        on : ((at : ℕ) (ns : List ℕ) → length ns + n ≡ most_numbers → StandShortest s 0 ns at → first_fault p ns ≡ Ok tt → length ns ≤ wanted_of p ns → End s (numbers_from p n s at ns))
+            → Open p s ns at → (v next : ℕ) → read_number s at ≡ found v next true → (x : Result Unit Refusal) → judge p ns v ≡ x
+            → End s (heeding x Stopped (numbers_from p n s next (ns ++ (v ∷ []))))
+        on more o v next r (Ok u) t =
             let k : length (ns ++ (v ∷ [])) ≡ length ns + 1 = length-append ns (v ∷ []) in
-            more next (ns ++ (v ∷ [])) (omega arith) (short-last st r) (fault-last [] ns v e (eqb-true (judge p ns v) 0 t)) (omega (arith, o.more, wanted-last ns v))
-        on more o v next r false t =
-            fault (record { ns = ns; at = at; v = v; next = next; far = o; reads = r; fault = refl }) (eqb-false (judge p ns v) 0 t)
+            more next (ns ++ (v ∷ [])) (omega arith) (short-last st r) (fault-last [] ns v e t) (omega (arith, o.more, wanted-last ns v))
+        on more o v next r (Err refusal) t = fault (record { ns = ns; at = at; v = v; next = next; far = o; reads = r; fault = ap refusal_number t })
 
-        get : ((at : ℕ) (ns : List ℕ) → length ns + n ≡ most_numbers → StandShortest s 0 ns at → first_fault p ns ≡ 0 → length ns ≤ wanted_of p ns → End s (numbers_from p n s at ns))
-            → Open p s ns at → (r : Number) → read_number s at ≡ r
-            → End s (formed r (Stopped 2) (λ v next b. pick (eqb (judge_field p ns v b) 0) (numbers_from p n s next (ns ++ (v ∷ []))) (Stopped (judge_field p ns v b))))
-        get more o (Value v next true) r = on more o v next r (eqb (judge p ns v) 0) refl
-        get more o (Value v next false) r = longer (record { ns = ns; at = at; v = v; next = next; far = o; reads = r })
-        get more o Ends r = inside (record { ns = ns; at = at; far = o; ends = r })
+        form : ((at : ℕ) (ns : List ℕ) → length ns + n ≡ most_numbers → StandShortest s 0 ns at → first_fault p ns ≡ Ok tt → length ns ≤ wanted_of p ns → End s (numbers_from p n s at ns))
+            → Open p s ns at → (v next : ℕ) (b : Bool) → read_number s at ≡ found v next b → End s (heeding (judge_field p ns v b) Stopped (numbers_from p n s next (ns ++ (v ∷ []))))
+        form more o v next true r = on more o v next r (judge p ns v) refl
+        form more o v next false r = longer (record { ns = ns; at = at; v = v; next = next; far = o; reads = r })
 
-        by : ((at : ℕ) (ns : List ℕ) → length ns + n ≡ most_numbers → StandShortest s 0 ns at → first_fault p ns ≡ 0 → length ns ≤ wanted_of p ns → End s (numbers_from p n s at ns))
+        get : ((at : ℕ) (ns : List ℕ) → length ns + n ≡ most_numbers → StandShortest s 0 ns at → first_fault p ns ≡ Ok tt → length ns ≤ wanted_of p ns → End s (numbers_from p n s at ns))
+            → Open p s ns at → (r : Result Number Refusal) → read_number s at ≡ r
+            → End s (formed r (Stopped Ends) (λ v next b. heeding (judge_field p ns v b) Stopped (numbers_from p n s next (ns ++ (v ∷ [])))))
+        get more o (Ok m) r = form more o m.value m.next m.shortest r
+        get more o (Err refusal) r = inside (record { ns = ns; at = at; far = o; ends = r ∙ ap Err (number-refused s at r) })
+
+        by : ((at : ℕ) (ns : List ℕ) → length ns + n ≡ most_numbers → StandShortest s 0 ns at → first_fault p ns ≡ Ok tt → length ns ≤ wanted_of p ns → End s (numbers_from p n s at ns))
             → (b : Bool) → leb (wanted_of p ns) (length ns) ≡ b
-            → End s (pick b (Whole ns at) (formed (read_number s at) (Stopped 2) (λ v next c. pick (eqb (judge_field p ns v c) 0) (numbers_from p n s next (ns ++ (v ∷ []))) (Stopped (judge_field p ns v c)))))
+            → End s (pick b (Whole ns at) (formed (read_number s at) (Stopped Ends) (λ v next c. heeding (judge_field p ns v c) Stopped (numbers_from p n s next (ns ++ (v ∷ []))))))
         by more true t = header (record { stand = st; good = e; whole = omega (arith, leb-true (wanted_of p ns) (length ns) t) })
         by more false t = get more (record { stand = st; good = e; more = leb-false (wanted_of p ns) (length ns) t }) (read_number s at) refl
 
@@ -150,7 +157,7 @@ module _ (p : Profile) where
   -- ---- the other direction: each end is the one that the reading comes to
 
   module _ (s ns : List ℕ) (at : ℕ) where
-    reach : StandShortest s 0 ns at → first_fault p ns ≡ 0 → length ns ≤ wanted_of p ns → (n : ℕ) → length ns + n ≡ most_numbers → read_numbers p s ≡ numbers_from p n s at ns
+    reach : StandShortest s 0 ns at → first_fault p ns ≡ Ok tt → length ns ≤ wanted_of p ns → (n : ℕ) → length ns + n ≡ most_numbers → read_numbers p s ≡ numbers_from p n s at ns
     reach st e h n l = ap (λ (m : ℕ). numbers_from p m s 0 []) (sym l) ∙ follow s ns [] n 0 at st e h
 
     stops : (n : ℕ) → wanted_of p ns ≤ length ns → numbers_from p n s at ns ≡ Whole ns at
@@ -167,14 +174,14 @@ module _ (p : Profile) where
     goes : Open p s ns at → read_numbers p s ≡ numbers_from p (suc (most_numbers - (length ns + 1))) s at ns
     goes o = reach o.stand o.good (omega (arith, o.more)) (suc (most_numbers - (length ns + 1))) (omega (arith, o.more, wanted-most ns))
 
-    pub open-ends : Open p s ns at → read_number s at ≡ Ends → read_numbers p s ≡ Stopped 2
+    pub open-ends : Open p s ns at → read_number s at ≡ Err Ends → read_numbers p s ≡ Stopped Ends
     unfolding numbers_from
     open-ends o r = goes o ∙ rw (lt-leb (wanted_of p ns) (length ns) o.more, r)
 
-    pub open-longer : Open p s ns at → (v next : ℕ) → read_number s at ≡ Value v next false → read_numbers p s ≡ Stopped 15
+    pub open-longer : Open p s ns at → (v next : ℕ) → read_number s at ≡ found v next false → read_numbers p s ≡ Stopped LongerForm
     unfolding numbers_from
     open-longer o v next r = goes o ∙ rw (lt-leb (wanted_of p ns) (length ns) o.more, r)
 
-    pub open-fault : Open p s ns at → (v next n : ℕ) → read_number s at ≡ Value v next true → judge p ns v ≡ n → (n ≡ 0 → ⊥) → read_numbers p s ≡ Stopped n
+    pub open-fault : Open p s ns at → (v next : ℕ) (refusal : Refusal) → read_number s at ≡ found v next true → judge p ns v ≡ Err refusal → read_numbers p s ≡ Stopped refusal
     unfolding numbers_from
-    open-fault o v next n r j z = goes o ∙ rw (lt-leb (wanted_of p ns) (length ns) o.more, r, j, ne_eqb n 0 z)
+    open-fault o v next refusal r j = goes o ∙ rw (lt-leb (wanted_of p ns) (length ns) o.more, r, j)

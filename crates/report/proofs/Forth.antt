@@ -9,6 +9,7 @@ use native.Mathlib.Omega.{arith}
 use borrow.Author.Tests.{lt-ltb}
 use lib.ListN.{length, get_or, take, drop, length-append, length-drop, length-take, drop_of_length-le, take-append-drop}
 use lib.Seq.{drop-cons, get_or-drop, split_at, length-take-le, take_all}
+use Rattle.std.specs.Prelude.{Ok}
 use Rattle.wire.specs.Bytes.{Octets}
 use Rattle.wire.specs.Numbers.{width_of, encode_all, all_small}
 use Rattle.wire.proofs.Lengths.{width-pos}
@@ -28,14 +29,14 @@ use Rattle.report.specs.Layout.{at_metrics, fixed_numbers, at_type, at_value}
 use Rattle.report.specs.Limits.{metric_places}
 use Rattle.report.specs.Header.{first_fault, wanted_of, count_of, each, metric_at, header_of, pairs, numbers_of}
 use Rattle.report.specs.Reader.{Reading, Whole, part_of, report_reading, report_of, read_report, entries_in, entries_of}
-use Rattle.report.specs.Writer.{report_size, write_answer, write_bytes}
+use Rattle.report.specs.Writer.{done, report_size, write_answer, write_bytes}
 use Rattle.report.specs.Exactly.{Headed, Sound}
 use Rattle.report.specs.EachWay.{WritesBack, ReadWrite, EqualBytes, Agree}
 use Rattle.report.specs.declared.Header.{Header}
-use Rattle.report.specs.declared.Written.TheVariants.{Done}
 use Rattle.report.proofs.Signed.{stored-average}
 use Rattle.report.proofs.Whole.{Judged, judged-whole}
-use Rattle.report.proofs.Planning.{length_last, plan-done}
+use Rattle.report.proofs.Heeding.{not-refused}
+use Rattle.report.proofs.Planning.{length_last, plan-done, done-same}
 use Rattle.report.proofs.Following.{metrics-placed, End, header, numbers-end, fault-at, fault-start}
 use Rattle.report.proofs.Exactly.{report-reads, sound-judged}
 use Rattle.report.proofs.Places.{metrics-small, entries-small}
@@ -49,7 +50,7 @@ get_or-each zero i k f h = absurd (omega arith)
 get_or-each (suc n) i zero f h = ap f (omega arith)
 get_or-each (suc n) i (suc k) f h = get_or-each n (suc i) k f (omega arith) ∙ ap f (omega arith)
 
-module _ (p : Profile) (ns : List ℕ) (g : first_fault p ns ≡ 0) (w : length ns ≡ wanted_of p ns) where
+module _ (p : Profile) (ns : List ℕ) (g : first_fault p ns ≡ Ok tt) (w : length ns ≡ wanted_of p ns) where
   abbrev m : ℕ
   m = get_or ns at_metrics 0
 
@@ -166,15 +167,16 @@ module _ (p : Profile) (s ns xs : List ℕ) (at maximum : ℕ) (o : Octets s) (w
   given : length (entries_of p s) / record_size p ≡ k
   given = whole-many (record_size p) (sized p) (length (entries_of p s)) k entries-long
 
-  entries-fine : entries_fault p (entries_of p s) ≡ 0
+  entries-fine : entries_fault p (entries_of p s) ≡ Ok tt
   entries-fine =
-      (fault-judged p (entries_of p s)).accepted.1
-      (record { even = whole-even (record_size p) (sized p) (length (entries_of p s)) k entries-long; few = rw given (omega (arith, k-few)); good = rw entries-are j.good })
+      not-refused (entries_fault p (entries_of p s))
+      ((fault-judged p (entries_of p s)).accepted.1
+      (record { even = whole-even (record_size p) (sized p) (length (entries_of p s)) k entries-long; few = rw given (omega (arith, k-few)); good = rw entries-are j.good }))
 
   front-small : all_small front ≡ true
   front-small = (all_small_lem front).1 ((small-append front (k ∷ [])).0 (rw again (stand-small s o (short-stands h.stand)))).0
 
-  front-good : first_fault p front ≡ 0
+  front-good : first_fault p front ≡ Ok tt
   front-good = fault-start p [] front (k ∷ []) (rw again h.good)
 
   abbrev size : ℕ
@@ -194,7 +196,7 @@ module _ (p : Profile) (s ns xs : List ℕ) (at maximum : ℕ) (o : Octets s) (w
       let l = records-fit p (length (entries_of p s) / record_size p) maximum (length xs - size) in
       antisym n k (omega (arith, l.given, given)) (l.longest k allowed (omega (arith, given)) (omega (arith, all-fits)))
 
-  answer : Done (length s) k ≡ write_answer p (header_of ns) (entries_of p s) maximum (length xs)
+  answer : done (length s) k ≡ write_answer p (header_of ns) (entries_of p s) maximum (length xs)
   answer =
       let less : size < length xs = omega (arith, all-fits, width-pos k (omega (arith, k-few))) in
       let l : size + width_of k + record_size p * k ≡ length s = omega (arith, all-fits) in
@@ -224,7 +226,7 @@ module _ (p : Profile) (s : List ℕ) (o : Octets s) (e : (read_report p s).refu
   writes-back : (maximum : ℕ) (xs : List ℕ) → count_of x.ns ≤ maximum → maximum ≤ most_entries → length s ≤ length xs → WritesBack p s maximum xs
   unfolding header_of
   writes-back maximum xs f m r = record {
-    answer = subst (λ (h : Header). Done (length s) h.entries ≡ write_answer p h (entries_of p s) maximum (length xs)) (sym header_read) (answer p s x.ns xs x.at maximum o whole f m r);
+    answer = subst (λ (h : Header). done (length s) h.entries ≡ write_answer p h (entries_of p s) maximum (length xs)) (sym header_read) (answer p s x.ns xs x.at maximum o whole f m r);
     bytes = subst (λ (h : Header). take (length s) (write_bytes p h (entries_of p s) maximum xs) ≡ s) (sym header_read) (bytes p s x.ns xs x.at maximum o whole f m r);
   }
 
@@ -270,8 +272,8 @@ equal-bytes p s t o q same = sym a.bytes ∙ rw (long, same.headers, alike) b.by
     b : WritesBack p t most_entries xs
     b = read-write p t most_entries xs q same.accepted.1 (entries-few p t q same.accepted.1) (omega arith) (rw length-append (omega arith))
 
-    same_answer : Done (length s) (read_report p s).header.entries ≡ Done (length t) (read_report p t).header.entries
+    same_answer : done (length s) (read_report p s).header.entries ≡ done (length t) (read_report p t).header.entries
     same_answer = a.answer ∙ rw (same.headers, alike) (sym b.answer)
 
     long : length s ≡ length t
-    long = let f = same_answer in cc
+    long = (done-same same_answer).0

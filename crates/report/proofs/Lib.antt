@@ -5,6 +5,7 @@ pub mod Whole
 pub mod Planning
 pub mod Only
 pub mod Examples
+pub mod Heeding
 pub mod Following
 pub mod Places
 pub mod Exactly

@@ -11,31 +11,36 @@ use borrow.Author.Tests.{lt-ltb, le-ltb, eq-eqb, ne_eqb, leb-true, leb-false, lt
 use lib.Dec.{leb, eqb, ltb}
 use lib.ListN.{length, get_or, length-append, get_or-append}
 use lib.Seq.{get_or-append-add}
+use Rattle.std.specs.Prelude.{Result, Ok, Err}
 use Rattle.wire.specs.Bytes.{pick}
+use Rattle.wire.specs.Refusals.{refusal_number}
+use Rattle.wire.specs.declared.Refusal.{Refusal}
+use Rattle.wire.specs.declared.Refusal.TheVariants.{BrokenCount, OtherTotal}
 use Rattle.wire.specs.Exactly.{OneOf}
 use Rattle.wire.proofs.Lengths.{split}
 use Rattle.report.specs.Layout.{at_lost, at_metrics, fixed_numbers}
 use Rattle.entries.specs.Profiles.{most_metrics, type_allowed}
 use Rattle.entries.specs.declared.Profile.{Profile}
 use Rattle.report.specs.Average.{stored_of}
-use Rattle.report.specs.Header.{type_rises, judge, judge_later, fault_after, first_fault, pairs, numbers_of}
+use Rattle.report.specs.Header.{unless, heeding, type_rises, judge, judge_later, fault_after, first_fault, pairs, numbers_of}
 use Rattle.report.specs.Exactly.{SumHolds, MetricsObey}
 use Rattle.report.specs.declared.Header.{Header}
+use Rattle.report.proofs.Heeding.{not-refused, refused-as}
 use Rattle.report.proofs.Following.{fault-first}
 use Rattle.report.proofs.Places.{place-judged}
 
 module _ (p : Profile) where
   -- from the ninth number on there is no 11
-  pub later-range : (ns us : List ℕ) → fixed_numbers ≤ length ns → (fault_after p ns us ≡ 0) ⊎ (fault_after p ns us ≡ 10)
+  pub later-range : (ns us : List ℕ) → fixed_numbers ≤ length ns → (fault_after p ns us ≡ Ok tt) ⊎ (fault_after p ns us ≡ Err BrokenCount)
   unfolding fault_after
   later-range ns [] h = inl refl
   later-range ns (v ∷ us) h =
       go (later-range (ns ++ (v ∷ [])) us (omega (arith, length-append ns (v ∷ [])))) (place-judged p ns v).others
     where
-      go : (fault_after p (ns ++ (v ∷ [])) us ≡ 0) ⊎ (fault_after p (ns ++ (v ∷ [])) us ≡ 10) → OneOf (judge p ns v) (0 ∷ 10 ∷ 11 ∷ [])
-          → (pick (eqb (judge p ns v) 0) (fault_after p (ns ++ (v ∷ [])) us) (judge p ns v) ≡ 0) ⊎ (pick (eqb (judge p ns v) 0) (fault_after p (ns ++ (v ∷ [])) us) (judge p ns v) ≡ 10)
-      go more (inl e) = rw e more
-      go more (inr (inl e)) = inr (rw e)
+      go : (fault_after p (ns ++ (v ∷ [])) us ≡ Ok tt) ⊎ (fault_after p (ns ++ (v ∷ [])) us ≡ Err BrokenCount) → OneOf (refusal_number (judge p ns v)) (0 ∷ 10 ∷ 11 ∷ [])
+          → (heeding (judge p ns v) Err (fault_after p (ns ++ (v ∷ [])) us) ≡ Ok tt) ⊎ (heeding (judge p ns v) Err (fault_after p (ns ++ (v ∷ [])) us) ≡ Err BrokenCount)
+      go more (inl e) = rw (not-refused (judge p ns v) e) more
+      go more (inr (inl e)) = inr (rw (refused-as (judge p ns v) BrokenCount e))
       go more (inr (inr (inl e))) = absurd (omega (arith, ((place-judged p ns v).eleven.0 e).place))
       go more (inr (inr (inr x))) = elim x [ ]
 
@@ -54,7 +59,7 @@ module _ (p : Profile) where
       rises : (j : ℕ) → suc j ≡ i → get_or ks j 0 < get_or ks i 0
 
     module _ (ns : List ℕ) (i m : ℕ) (b : Before ns i m) (h : i < m) where
-      type-judged : (v : ℕ) → judge p ns v ≡ pick (pick (type_allowed p v) (type_rises ns v) false) 0 10
+      type-judged : (v : ℕ) → judge p ns v ≡ unless BrokenCount (pick (type_allowed p v) (type_rises ns v) false)
       unfolding judge judge_later
       type-judged v =
           rw (
@@ -65,7 +70,7 @@ module _ (p : Profile) where
             ne_eqb ((length ns - fixed_numbers) / 2) (get_or ns at_metrics 0) (λ e. omega (arith, b.count, b.many)),
           )
 
-      value-judged : (u v : ℕ) → judge p (ns ++ (u ∷ [])) v ≡ 0
+      value-judged : (u v : ℕ) → judge p (ns ++ (u ∷ [])) v ≡ Ok tt
       unfolding judge
       value-judged u v =
           let l : length (ns ++ (u ∷ [])) ≡ fixed_numbers + 2 * i + 1 = rw length-append (omega (arith, b.count)) in
@@ -77,15 +82,15 @@ module _ (p : Profile) where
       rises-later : (j : ℕ) → suc j ≡ i → (v : ℕ) → type_rises ns v ≡ ltb (get_or ks j 0) v
       rises-later j e v = rw (ne_eqb (length ns) fixed_numbers (λ z. omega (arith, b.count)), b.last j e)
 
-      good-type : judge p ns (get_or ks i 0) ≡ 0 → Obeyed i
+      good-type : judge p ns (get_or ks i 0) ≡ Ok tt → Obeyed i
       good-type e = go (type_allowed p (get_or ks i 0)) (type_rises ns (get_or ks i 0)) refl refl (sym (type-judged (get_or ks i 0)) ∙ e)
         where
-          go : (a c : Bool) → type_allowed p (get_or ks i 0) ≡ a → type_rises ns (get_or ks i 0) ≡ c → ◌≡◌ {A = ℕ} (pick (pick a c false) 0 10) 0 → Obeyed i
+          go : (a c : Bool) → type_allowed p (get_or ks i 0) ≡ a → type_rises ns (get_or ks i 0) ≡ c → unless BrokenCount (pick a c false) ≡ Ok tt → Obeyed i
           go true true p q e = record { known = p; rises = λ j f. ltb-true (get_or ks j 0) (get_or ks i 0) (sym (rises-later j f (get_or ks i 0)) ∙ q) }
-          go true false p q e = absurd (eqb-false 10 0 refl e)
-          go false c p q e = absurd (eqb-false 10 0 refl e)
+          go true false p q e = absurd (cc)
+          go false c p q e = absurd (cc)
 
-      type-good : Obeyed i → judge p ns (get_or ks i 0) ≡ 0
+      type-good : Obeyed i → judge p ns (get_or ks i 0) ≡ Ok tt
       type-good o = type-judged (get_or ks i 0) ∙ rw (o.known, rises i refl)
         where
           rises : (k : ℕ) → i ≡ k → type_rises ns (get_or ks i 0) ≡ true
@@ -106,7 +111,7 @@ module _ (p : Profile) where
 
     -- ---- k metrics from the i-th on
 
-    pairs-good : (k i m : ℕ) (ns : List ℕ) → Before ns i m → i + k ≡ m → fault_after p ns (pairs k i ks vs) ≡ 0 → (j : ℕ) → i ≤ j → j < m → Obeyed j
+    pairs-good : (k i m : ℕ) (ns : List ℕ) → Before ns i m → i + k ≡ m → fault_after p ns (pairs k i ks vs) ≡ Ok tt → (j : ℕ) → i ≤ j → j < m → Obeyed j
     unfolding pairs
     pairs-good zero i m ns b l e j a q = absurd (omega arith)
     pairs-good (suc k) i m ns b l e j a q =
@@ -116,7 +121,7 @@ module _ (p : Profile) where
         (λ h. pairs-good k (suc i) m ((ns ++ (get_or ks i 0 ∷ [])) ++ (get_or vs i 0 ∷ [])) (next-before ns i m b (omega arith) (get_or ks i 0) (get_or vs i 0) refl) (omega arith) g.1 j h q)
         (λ h. let z : i ≡ j = omega arith in subst Obeyed z (good-type ns i m b (omega arith) f.0))
 
-    good-pairs : (k i m : ℕ) (ns : List ℕ) → Before ns i m → i + k ≡ m → ((j : ℕ) → j < m → Obeyed j) → fault_after p ns (pairs k i ks vs) ≡ 0
+    good-pairs : (k i m : ℕ) (ns : List ℕ) → Before ns i m → i + k ≡ m → ((j : ℕ) → j < m → Obeyed j) → fault_after p ns (pairs k i ks vs) ≡ Ok tt
     unfolding pairs fault_after
     good-pairs zero i m ns b l f = refl
     good-pairs (suc k) i m ns b l f =
@@ -125,23 +130,23 @@ module _ (p : Profile) where
 
   -- ---- the whole header
 
-  pub data Verdict (h : Header) : ℕ → Type 0 where
-    wrong-sum : (SumHolds h → ⊥) → Verdict h 11
-    broken : SumHolds h → (MetricsObey p h → ⊥) → Verdict h 10
-    right : SumHolds h → MetricsObey p h → Verdict h 0
+  pub data Verdict (h : Header) : Result Unit Refusal → Type 0 where
+    wrong-sum : (SumHolds h → ⊥) → Verdict h (Err OtherTotal)
+    broken : SumHolds h → (MetricsObey p h → ⊥) → Verdict h (Err BrokenCount)
+    right : SumHolds h → MetricsObey p h → Verdict h (Ok tt)
 
   module _ (h : Header) where
     abbrev fixed : List ℕ
     fixed = h.timestamp ∷ h.interval ∷ h.total ∷ h.received ∷ h.late ∷ h.lost ∷ stored_of h.average ∷ h.metrics ∷ []
 
-    abbrev rest : ℕ
+    abbrev rest : Result Unit Refusal
     rest = fault_after p fixed (pairs (min h.metrics (most_metrics p)) 0 h.kinds h.values)
 
-    header-fault : first_fault p (numbers_of p h) ≡ pick (eqb h.total (h.received + h.late + h.lost)) (pick (leb h.metrics (most_metrics p)) rest 10) 11
+    header-fault : first_fault p (numbers_of p h) ≡ pick (eqb h.total (h.received + h.late + h.lost)) (pick (leb h.metrics (most_metrics p)) rest (Err BrokenCount)) (Err OtherTotal)
     unfolding numbers_of fault_after judge
     header-fault = go (eqb h.total (h.received + h.late + h.lost)) (leb h.metrics (most_metrics p)) rest
       where
-        go : (b c : Bool) (r : ℕ) → pick (eqb (pick b 0 11) 0) (pick (eqb (pick c 0 10) 0) r (pick c 0 10)) (pick b 0 11) ≡ pick b (pick c r 10) 11
+        go : (b c : Bool) (r : Result Unit Refusal) → heeding (unless OtherTotal b) Err (heeding (unless BrokenCount c) Err r) ≡ pick b (pick c r (Err BrokenCount)) (Err OtherTotal)
         go true true r = refl
         go true false r = refl
         go false c r = refl
@@ -155,10 +160,10 @@ module _ (p : Profile) where
         rises : (i j : ℕ) → suc i ≡ j → j < h.metrics → get_or h.kinds i 0 < get_or h.kinds j 0
         rises i j e l = subst (λ (x : ℕ). get_or h.kinds i 0 < get_or h.kinds x 0) e (o.rising i (omega arith))
 
-    rest-right : MetricsObey p h → rest ≡ 0
+    rest-right : MetricsObey p h → rest ≡ Ok tt
     rest-right o = rw (min-eq_left o.few) (good-pairs h.kinds h.values h.metrics 0 h.metrics fixed start (zero-add h.metrics) (obeyed o))
 
-    right-rest : h.metrics ≤ most_metrics p → rest ≡ 0 → MetricsObey p h
+    right-rest : h.metrics ≤ most_metrics p → rest ≡ Ok tt → MetricsObey p h
     right-rest l e =
         let g : (j : ℕ) → j < h.metrics → Obeyed h.kinds h.values j =
         λ j q. pairs-good h.kinds h.values h.metrics 0 h.metrics fixed start (zero-add h.metrics) (rw (min-eq_left l) at e) j zero-le q in
@@ -167,11 +172,14 @@ module _ (p : Profile) where
     pub verdict : Verdict h (first_fault p (numbers_of p h))
     verdict = subst (Verdict h) (sym header-fault) (go (eqb h.total (h.received + h.late + h.lost)) (leb h.metrics (most_metrics p)) refl refl)
       where
-        last : SumHolds h → h.metrics ≤ most_metrics p → (rest ≡ 0) ⊎ (rest ≡ 10) → Verdict h rest
-        last s l (inl e) = subst (Verdict h) (sym e) (right s (right-rest l e))
-        last s l (inr e) = subst (Verdict h) (sym e) (broken s (λ o. eqb-false 0 10 refl (sym (rest-right o) ∙ e)))
+        refused-now : ◌≡◌ {A = Result Unit Refusal} (Ok tt) (Err BrokenCount) → ⊥
+        refused-now e = absurd (cc)
 
-        go : (b c : Bool) → eqb h.total (h.received + h.late + h.lost) ≡ b → leb h.metrics (most_metrics p) ≡ c → Verdict h (pick b (pick c rest 10) 11)
+        last : SumHolds h → h.metrics ≤ most_metrics p → (rest ≡ Ok tt) ⊎ (rest ≡ Err BrokenCount) → Verdict h rest
+        last s l (inl e) = subst (Verdict h) (sym e) (right s (right-rest l e))
+        last s l (inr e) = subst (Verdict h) (sym e) (broken s (λ o. refused-now (sym (rest-right o) ∙ e)))
+
+        go : (b c : Bool) → eqb h.total (h.received + h.late + h.lost) ≡ b → leb h.metrics (most_metrics p) ≡ c → Verdict h (pick b (pick c rest (Err BrokenCount)) (Err OtherTotal))
         go true true t q = last (eqb-true h.total (h.received + h.late + h.lost) t) (leb-true h.metrics (most_metrics p) q) (later-range fixed (pairs (min h.metrics (most_metrics p)) 0 h.kinds h.values) (le_refl 8))
         go true false t q = broken (eqb-true h.total (h.received + h.late + h.lost) t) (λ o. omega (arith, o.few, leb-false h.metrics (most_metrics p) q))
         go false c t q = wrong-sum (eqb-false h.total (h.received + h.late + h.lost) t)

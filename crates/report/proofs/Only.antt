@@ -13,8 +13,6 @@ use Rattle.report.proofs.head.read_head.Reads as read_head
 use Rattle.report.proofs.head.read_head.Kinds as read-head-kinds
 use Rattle.report.proofs.writer.write_report.Reads as write-report
 use Rattle.report.proofs.writer.write_report.Kinds as write-report-kinds
-use Rattle.report.proofs.Written.refusal.Reads as written-refusal
-use Rattle.report.proofs.Written.refusal.Kinds as written-refusal-kinds
 use Rattle.report.proofs.judging.judge_field.Reads as judge-field
 use Rattle.report.proofs.judging.judge_field.Kinds as judge-field-kinds
 use Rattle.report.proofs.judging.most_metrics.Reads as most-metrics
@@ -45,9 +43,6 @@ read-head-one κs given x y s t p q = p.0 ∙ sym q.0
 
 pub write-report-one : OneBuffer 2 write-report-kinds.ps write-report-kinds.r (λ κs s. s.1.0.now) write-report.Post
 write-report-one κs given x y s t p q = (p.0 ∙ sym q.0, p.1 ∙ sym q.1)
-
-pub written-refusal-one : OneAnswer 0 written-refusal-kinds.ps written-refusal-kinds.r written-refusal.Post
-written-refusal-one κs given x y s t p q = p ∙ sym q
 
 pub judge-field-one : OneAnswer 1 judge-field-kinds.ps judge-field-kinds.r judge-field.Post
 judge-field-one κs given x y s t p q = p ∙ sym q

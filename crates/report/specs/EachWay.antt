@@ -10,10 +10,9 @@ use Rattle.entries.specs.Exactly.{Obeys}
 use Rattle.report.specs.Limits.{metric_places}
 use Rattle.report.specs.Header.{each, numbers_of}
 use Rattle.report.specs.Reader.{read_report, entries_of}
-use Rattle.report.specs.Writer.{report_size, write_answer, write_bytes}
+use Rattle.report.specs.Writer.{done, report_size, write_answer, write_bytes}
 use Rattle.entries.specs.declared.Profile.{Profile}
 use Rattle.report.specs.declared.Header.{Header}
-use Rattle.report.specs.declared.Written.TheVariants.{Done}
 
 -- a header as it goes over the wire with k records: of the metrics those that are counted, and k entries
 unfoldable pub sent_as : Header → ℕ → Header
@@ -38,7 +37,7 @@ pub record ReadsBack (p : Profile) (h : Header) (entries written : List ℕ) (ne
 
 abbrev pub WriteRead : Type 0
 WriteRead =
-    (p : Profile) (h : Header) (entries : List ℕ) (maximum : ℕ) (xs : List ℕ) (next kept : ℕ) → Done next kept ≡ write_answer p h entries maximum (length xs)
+    (p : Profile) (h : Header) (entries : List ℕ) (maximum : ℕ) (xs : List ℕ) (next kept : ℕ) → done next kept ≡ write_answer p h entries maximum (length xs)
     → ReadsBack p h entries (write_bytes p h entries maximum xs) next kept
 
 -- the run of last records that is kept: at most the maximum, no more than are given, it fits, and no longer one does; bytes behind the report stay
@@ -52,11 +51,11 @@ pub record Keeps (p : Profile) (h : Header) (entries : List ℕ) (maximum : ℕ)
   pub stay : drop next (write_bytes p h entries maximum xs) ≡ drop next xs
 
 abbrev pub WriteKeeps : Type 0
-WriteKeeps = (p : Profile) (h : Header) (entries : List ℕ) (maximum : ℕ) (xs : List ℕ) (next kept : ℕ) → Done next kept ≡ write_answer p h entries maximum (length xs) → Keeps p h entries maximum xs next kept
+WriteKeeps = (p : Profile) (h : Header) (entries : List ℕ) (maximum : ℕ) (xs : List ℕ) (next kept : ℕ) → done next kept ≡ write_answer p h entries maximum (length xs) → Keeps p h entries maximum xs next kept
 
 -- an accepted report, written from its header and its entries into a room that holds it
 pub record WritesBack (p : Profile) (s : List ℕ) (maximum : ℕ) (xs : List ℕ) : Type 0 where
-  pub answer : Done (length s) (read_report p s).header.entries ≡ write_answer p (read_report p s).header (entries_of p s) maximum (length xs)
+  pub answer : done (length s) (read_report p s).header.entries ≡ write_answer p (read_report p s).header (entries_of p s) maximum (length xs)
   pub bytes : take (length s) (write_bytes p (read_report p s).header (entries_of p s) maximum xs) ≡ s
 
 -- what the reader accepts, of bytes, is what the writer writes with a maximum that allows its entries

@@ -1,9 +1,11 @@
 -- The rows of the refusal table for reports: each number is given exactly when its row says, the first fault first, and no other number is.
-use Rattle.std.specs.Prelude.{ℕ, suc, ◌+◌, ◌-◌, ◌*◌, ◌/◌, ◌%◌, ◌≤◌, ◌<◌, ◌≡◌, ◌↔◌, ◌⊎◌, true, false, List, [], ◌∷◌, length, get_or}
+use Rattle.std.specs.Prelude.{ℕ, suc, ◌+◌, ◌-◌, ◌*◌, ◌/◌, ◌%◌, ◌≤◌, ◌<◌, ◌≡◌, ◌↔◌, ◌⊎◌, true, false, Ok, Err, List, [], ◌∷◌, length, get_or}
 use Rattle.wire.specs.Numbers.{read_number, encode_all}
 use Rattle.wire.specs.Standing.{StandShortest}
 use Rattle.wire.specs.Exactly.{OneOf, Small}
-use Rattle.wire.specs.declared.Number.TheVariants.{Value, Ends}
+use Rattle.wire.specs.Fields.{found}
+use Rattle.wire.specs.Refusals.{refusal_number}
+use Rattle.wire.specs.declared.Refusal.TheVariants.{Ends}
 use Rattle.entries.specs.Limits.{most_entries}
 use Rattle.entries.specs.Profiles.{record_size, most_metrics, type_allowed, number_of, Other}
 use Rattle.entries.specs.Entries.{entries_good}
@@ -12,7 +14,6 @@ use Rattle.report.specs.Layout.{at_total, at_received, at_late, at_lost, at_metr
 use Rattle.report.specs.Header.{type_rises, judge, first_fault, wanted_of, count_of, numbers_of}
 use Rattle.report.specs.Reader.{part_of, read_report, read_by}
 use Rattle.report.specs.Writer.{report_size, write_answer, answer_by, bytes_by}
-use Rattle.report.specs.Refusals.{written_refusal}
 use Rattle.entries.specs.declared.Profile.{Profile}
 use Rattle.report.specs.declared.Header.{Header}
 
@@ -29,13 +30,13 @@ pub record By (profile : ℕ) (Rows : Profile → ℕ → Type 0) (numbers : Lis
 -- the numbers ns were read in their shortest forms, none brought a refusal, and more are wanted
 pub record Open (p : Profile) (s ns : List ℕ) (at : ℕ) : Type 0 where
   pub stand : StandShortest s 0 ns at
-  pub good : first_fault p ns ≡ 0
+  pub good : first_fault p ns ≡ Ok tt
   pub more : length ns < wanted_of p ns
 
 -- the numbers ns are a whole header: they were read so, none brought a refusal, and they are as many as are wanted
 pub record Headed (p : Profile) (s ns : List ℕ) (at : ℕ) : Type 0 where
   pub stand : StandShortest s 0 ns at
-  pub good : first_fault p ns ≡ 0
+  pub good : first_fault p ns ≡ Ok tt
   pub whole : length ns ≡ wanted_of p ns
 
 -- the bytes end inside a number
@@ -43,7 +44,7 @@ pub record EndsInside (p : Profile) (s : List ℕ) : Type 0 where
   pub ns : List ℕ
   pub at : ℕ
   pub far : Open p s ns at
-  pub ends : read_number s at ≡ Ends
+  pub ends : read_number s at ≡ Err Ends
 
 -- 15: a number stands whole, and in a longer form than it need, whatever its value
 pub record Longer (p : Profile) (s : List ℕ) : Type 0 where
@@ -52,7 +53,7 @@ pub record Longer (p : Profile) (s : List ℕ) : Type 0 where
   pub v : ℕ
   pub next : ℕ
   pub far : Open p s ns at
-  pub reads : read_number s at ≡ Value v next false
+  pub reads : read_number s at ≡ found v next false
 
 -- a number that was read in its shortest form breaks the rule of its place
 pub record Faulty (p : Profile) (n : ℕ) (s : List ℕ) : Type 0 where
@@ -61,8 +62,8 @@ pub record Faulty (p : Profile) (n : ℕ) (s : List ℕ) : Type 0 where
   pub v : ℕ
   pub next : ℕ
   pub far : Open p s ns at
-  pub reads : read_number s at ≡ Value v next true
-  pub fault : judge p ns v ≡ n
+  pub reads : read_number s at ≡ found v next true
+  pub fault : refusal_number (judge p ns v) ≡ n
 
 -- too few bytes remain for the entries
 pub record TooFew (p : Profile) (s : List ℕ) : Type 0 where
@@ -142,9 +143,9 @@ pub record EntriesBroken (ns : List ℕ) (v : ℕ) : Type 0 where
   pub above : most_entries < v
 
 pub record PlaceRows (p : Profile) (ns : List ℕ) (v : ℕ) : Type 0 where
-  pub eleven : judge p ns v ≡ 11 ↔ SumBroken ns v
-  pub ten : judge p ns v ≡ 10 ↔ (CountBroken p ns v ⊎ (TypeBroken p ns v ⊎ EntriesBroken ns v))
-  pub others : OneOf (judge p ns v) (0 ∷ 10 ∷ 11 ∷ [])
+  pub eleven : refusal_number (judge p ns v) ≡ 11 ↔ SumBroken ns v
+  pub ten : refusal_number (judge p ns v) ≡ 10 ↔ (CountBroken p ns v ⊎ (TypeBroken p ns v ⊎ EntriesBroken ns v))
+  pub others : OneOf (refusal_number (judge p ns v)) (0 ∷ 10 ∷ 11 ∷ [])
 
 abbrev pub PlaceJudged : Type 0
 PlaceJudged = (p : Profile) (ns : List ℕ) (v : ℕ) → PlaceRows p ns v
@@ -198,15 +199,15 @@ pub record WriterRows (p : Profile) (h : Header) (entries : List ℕ) (maximum r
   pub others : OneOf refusal (0 ∷ 5 ∷ 9 ∷ 10 ∷ 11 ∷ 12 ∷ [])
 
 abbrev pub ReportWrites : Type 0
-ReportWrites = (p : Profile) (h : Header) (entries : List ℕ) (maximum room : ℕ) → WriterRows p h entries maximum room (written_refusal (write_answer p h entries maximum room))
+ReportWrites = (p : Profile) (h : Header) (entries : List ℕ) (maximum room : ℕ) → WriterRows p h entries maximum room (refusal_number (write_answer p h entries maximum room))
 
 abbrev pub ReportWritesBy : Type 0
 ReportWritesBy =
     (profile : ℕ) (h : Header) (entries : List ℕ) (maximum room : ℕ)
-    → By profile (λ p. WriterRows p h entries maximum room) (0 ∷ 5 ∷ 9 ∷ 10 ∷ 11 ∷ 12 ∷ []) (written_refusal (answer_by profile h entries maximum room))
+    → By profile (λ p. WriterRows p h entries maximum room) (0 ∷ 5 ∷ 9 ∷ 10 ∷ 11 ∷ 12 ∷ []) (refusal_number (answer_by profile h entries maximum room))
 
 -- a refused write leaves every element as it was
 abbrev pub ReportUnchanged : Type 0
 ReportUnchanged =
-    (profile : ℕ) (h : Header) (entries : List ℕ) (maximum : ℕ) (xs : List ℕ) → (written_refusal (answer_by profile h entries maximum (length xs)) ≡ 0 → ⊥)
+    (profile : ℕ) (h : Header) (entries : List ℕ) (maximum : ℕ) (xs : List ℕ) → (refusal_number (answer_by profile h entries maximum (length xs)) ≡ 0 → ⊥)
     → bytes_by profile h entries maximum xs ≡ xs

@@ -1,12 +1,12 @@
 -- The settled examples P9 and P10, longer forms at a field with another fault or none (02, No. 5), the limits of No. 8, and the profiles of No. 10, on the definitions.
-use Rattle.std.specs.Prelude.{ℕ, ◌+◌, ◌-◌, ◌*◌, ◌^◌, ◌≡◌, List, [], ◌∷◌, ◌++◌, negsuc, replicate}
+use Rattle.std.specs.Prelude.{ℕ, ◌+◌, ◌-◌, ◌*◌, ◌^◌, ◌≡◌, List, [], ◌∷◌, ◌++◌, Err, negsuc, replicate}
+use Rattle.wire.specs.declared.Refusal.TheVariants.{NoRoom, BrokenCount, BrokenEntry, OtherProfile}
 use Rattle.entries.specs.Limits.{most_entries}
 use Rattle.entries.specs.Fitting.{fitting_of}
 use Rattle.report.specs.Reader.{read_by, entries_by}
-use Rattle.report.specs.Writer.{answer_by, bytes_by}
+use Rattle.report.specs.Writer.{done, answer_by, bytes_by}
 use Rattle.entries.specs.declared.Profile.TheVariants.{One}
 use Rattle.report.specs.declared.Header.{Header}
-use Rattle.report.specs.declared.Written.TheVariants.{Done, Refused}
 
 -- timestamp 1,000,000, interval 100,000, counts 3, 1, 1, 1, average -2, no metrics
 abbrev pub sample : ℕ → Header
@@ -37,12 +37,12 @@ abbrev pub three : List ℕ
 three = entry 7 0 9 ++ (entry 8 1 5 ++ entry 11 2 0)
 
 pub record Examples : Type 0 where
-  pub P9 : (answer_by 1 (sample 0) [] most_entries 15 ≡ Done 15 0) × (bytes_by 1 (sample 0) [] most_entries (replicate 15 0) ≡ head ++ (0x00 ∷ []))
+  pub P9 : (answer_by 1 (sample 0) [] most_entries 15 ≡ done 15 0) × (bytes_by 1 (sample 0) [] most_entries (replicate 15 0) ≡ head ++ (0x00 ∷ []))
   pub P9-read : (read_by 1 (head ++ (0x00 ∷ [])) ≡ record { refusal = 0; header = sample 0 }) × (entries_by 1 (head ++ (0x00 ∷ [])) ≡ [])
-  pub P10-two : (answer_by 1 (sample 0) three most_entries 47 ≡ Done 47 2) × (bytes_by 1 (sample 0) three most_entries (replicate 47 0) ≡ head ++ (0x02 ∷ (entry 8 1 5 ++ entry 11 2 0)))
-  pub P10-one : (answer_by 1 (sample 0) three most_entries 46 ≡ Done 31 1) × (bytes_by 1 (sample 0) three most_entries (replicate 46 0) ≡ head ++ (0x01 ∷ (entry 11 2 0 ++ replicate 15 0)))
-  pub P10-none : (answer_by 1 (sample 0) three most_entries 15 ≡ Done 15 0) × (bytes_by 1 (sample 0) three most_entries (replicate 15 0) ≡ head ++ (0x00 ∷ []))
-  pub P10-refused : (answer_by 1 (sample 0) three most_entries 14 ≡ Refused 9) × (bytes_by 1 (sample 0) three most_entries (replicate 14 0) ≡ replicate 14 0)
+  pub P10-two : (answer_by 1 (sample 0) three most_entries 47 ≡ done 47 2) × (bytes_by 1 (sample 0) three most_entries (replicate 47 0) ≡ head ++ (0x02 ∷ (entry 8 1 5 ++ entry 11 2 0)))
+  pub P10-one : (answer_by 1 (sample 0) three most_entries 46 ≡ done 31 1) × (bytes_by 1 (sample 0) three most_entries (replicate 46 0) ≡ head ++ (0x01 ∷ (entry 11 2 0 ++ replicate 15 0)))
+  pub P10-none : (answer_by 1 (sample 0) three most_entries 15 ≡ done 15 0) × (bytes_by 1 (sample 0) three most_entries (replicate 15 0) ≡ head ++ (0x00 ∷ []))
+  pub P10-refused : (answer_by 1 (sample 0) three most_entries 14 ≡ Err NoRoom) × (bytes_by 1 (sample 0) three most_entries (replicate 14 0) ≡ replicate 14 0)
   pub P10-read : (read_by 1 (head ++ (0x03 ∷ three)) ≡ record { refusal = 0; header = sample 3 }) × (entries_by 1 (head ++ (0x03 ∷ three)) ≡ three)
 
 -- what the reader answers
@@ -69,11 +69,11 @@ pub record LongerForms : Type 0 where
 
 -- the limits of No. 8: the maximum is judged before the records, and the count takes a second byte from 64 entries on
 pub record Maxima : Type 0 where
-  pub none : answer_by 1 (sample 0) three 0 100 ≡ Done 15 0
-  pub two : (answer_by 1 (sample 0) three 2 100 ≡ Done 47 2) × (bytes_by 1 (sample 0) three 2 (replicate 47 0) ≡ head ++ (0x02 ∷ (entry 8 1 5 ++ entry 11 2 0)))
-  pub all : (answer_by 1 (sample 0) three 3 100 ≡ Done 63 3) × (answer_by 1 (sample 0) three 200 100 ≡ Done 63 3)
-  pub above : (answer_by 1 (sample 0) three 201 100 ≡ Refused 10) × (answer_by 1 (sample 0) three (2 ^ 64 - 1) 100 ≡ Refused 10)
-  pub before-records : (answer_by 1 (sample 0) (7 ∷ []) 201 100 ≡ Refused 10) × (answer_by 1 (sample 0) (7 ∷ []) 200 100 ≡ Refused 12)
+  pub none : answer_by 1 (sample 0) three 0 100 ≡ done 15 0
+  pub two : (answer_by 1 (sample 0) three 2 100 ≡ done 47 2) × (bytes_by 1 (sample 0) three 2 (replicate 47 0) ≡ head ++ (0x02 ∷ (entry 8 1 5 ++ entry 11 2 0)))
+  pub all : (answer_by 1 (sample 0) three 3 100 ≡ done 63 3) × (answer_by 1 (sample 0) three 200 100 ≡ done 63 3)
+  pub above : (answer_by 1 (sample 0) three 201 100 ≡ Err BrokenCount) × (answer_by 1 (sample 0) three (2 ^ 64 - 1) 100 ≡ Err BrokenCount)
+  pub before-records : (answer_by 1 (sample 0) (7 ∷ []) 201 100 ≡ Err BrokenCount) × (answer_by 1 (sample 0) (7 ∷ []) 200 100 ≡ Err BrokenEntry)
   pub count-read : (refusal (zeros 8 (0x40 ∷ 0xc8 ∷ [])) ≡ 2) × (refusal (zeros 8 (0x40 ∷ 0xc9 ∷ [])) ≡ 10)
   pub second-byte : (fitting_of One 256 200 (1 + 16 * 63) ≡ 63) × ((fitting_of One 256 200 (1 + 16 * 64) ≡ 63) × (fitting_of One 256 200 (2 + 16 * 64) ≡ 64))
   pub most : (fitting_of One 256 200 (1 + 16 * 200) ≡ 199) × ((fitting_of One 256 200 (2 + 16 * 200) ≡ 200) × (fitting_of One 256 200 (2 + 16 * 201) ≡ 200))
@@ -101,10 +101,10 @@ pub record Groups : Type 0 where
   pub group-above : refusal2 (head ++ (0x01 ∷ 0x40 ∷ zeros 7 (entry 1 0 0))) ≡ 12
   pub too_few : refusal2 (head ++ (0x03 ∷ groups)) ≡ 2
   pub as-profile-one : refusal (head ++ (0x02 ∷ groups)) ≡ 13
-  pub both-kept : answer_by 2 (sample 0) groups 200 63 ≡ Done 63 2
-  pub one_kept : (answer_by 2 (sample 0) groups 200 62 ≡ Done 39 1) × (bytes_by 2 (sample 0) groups 200 (replicate 62 0) ≡ head ++ (0x01 ∷ (grouped 2 3 2 0 ++ replicate 23 0)))
-  pub none_kept : (answer_by 2 (sample 0) groups 200 38 ≡ Done 15 0) × (answer_by 2 (sample 0) groups 200 14 ≡ Refused 9)
-  pub ragged : answer_by 2 (sample 0) (entry 7 0 9) 200 100 ≡ Refused 12
+  pub both-kept : answer_by 2 (sample 0) groups 200 63 ≡ done 63 2
+  pub one_kept : (answer_by 2 (sample 0) groups 200 62 ≡ done 39 1) × (bytes_by 2 (sample 0) groups 200 (replicate 62 0) ≡ head ++ (0x01 ∷ (grouped 2 3 2 0 ++ replicate 23 0)))
+  pub none_kept : (answer_by 2 (sample 0) groups 200 38 ≡ done 15 0) × (answer_by 2 (sample 0) groups 200 14 ≡ Err NoRoom)
+  pub ragged : answer_by 2 (sample 0) (entry 7 0 9) 200 100 ≡ Err BrokenEntry
 
 -- eight metrics, each of its type and the value 1
 abbrev pub eight : List ℕ
@@ -121,6 +121,6 @@ pub record EvenTypes : Type 0 where
 
 -- "18 for a profile other than 1 or 2, first": where another refusal would come, and where none would
 pub record OtherProfiles : Type 0 where
-  pub zero : ((read_by 0 []).refusal ≡ 18) × (answer_by 0 (sample 0) (7 ∷ []) 201 0 ≡ Refused 18)
+  pub zero : ((read_by 0 []).refusal ≡ 18) × (answer_by 0 (sample 0) (7 ∷ []) 201 0 ≡ Err OtherProfile)
   pub three : ((read_by 3 (zeros 9 [])).refusal ≡ 18) × (entries_by 3 (zeros 9 []) ≡ [])
   pub largest : ((read_by (2 ^ 64 - 1) (zeros 9 [])).refusal ≡ 18) × (bytes_by (2 ^ 64 - 1) (sample 0) [] 200 (replicate 15 0) ≡ replicate 15 0)

@@ -1,6 +1,8 @@
 -- What each number of a header brings, and the header that the numbers are.
-use Rattle.std.specs.Prelude.{ℕ, zero, suc, ◌+◌, ◌-◌, ◌*◌, ◌/◌, ◌%◌, min, List, [], ◌∷◌, ◌++◌, Bool, true, false, eqb, leb, ltb, length, get_or, pos}
+use Rattle.std.specs.Prelude.{ℕ, zero, suc, ◌+◌, ◌-◌, ◌*◌, ◌/◌, ◌%◌, min, List, [], ◌∷◌, ◌++◌, Bool, true, false, Result, Ok, Err, eqb, leb, ltb, length, get_or, pos}
 use Rattle.wire.specs.Bytes.{pick}
+use Rattle.wire.specs.declared.Refusal.{Refusal}
+use Rattle.wire.specs.declared.Refusal.TheVariants.{BrokenCount, OtherTotal, LongerForm}
 use Rattle.entries.specs.Limits.{most_entries}
 use Rattle.entries.specs.Profiles.{most_metrics, type_allowed}
 use Rattle.report.specs.Layout.{at_timestamp, at_interval, at_total, at_received, at_late, at_lost, at_average, at_metrics, fixed_numbers, at_type, at_value}
@@ -9,9 +11,14 @@ use Rattle.report.specs.Average.{stored_of, average_of}
 use Rattle.entries.specs.declared.Profile.{Profile}
 use Rattle.report.specs.declared.Header.{Header}
 
--- the refusal n unless the test holds
-abbrev pub unless : ℕ → Bool → ℕ
-unless n ok = pick ok 0 n
+-- the refusal unless the test holds
+abbrev pub unless : Refusal → Bool → Result Unit Refusal
+unless refusal ok = pick ok (Ok tt) (Err refusal)
+
+-- what comes next where nothing is refused, or what f makes of the refusal
+abbrev pub heeding : {R : Type 0} → Result Unit Refusal → (Refusal → R) → R → R
+heeding (Ok u) f next = next
+heeding (Err refusal) f next = f refusal
 
 -- ---- what each number brings: p is the report's profile, ns are the numbers so far, v the next one
 
@@ -20,30 +27,30 @@ abbrev pub type_rises : List ℕ → ℕ → Bool
 type_rises ns v = pick (eqb (length ns) fixed_numbers) true (ltb (get_or ns (length ns - 2) 0) v)
 
 -- behind the metrics that were counted the entry count, otherwise a type
-unfoldable pub judge_later : Profile → List ℕ → ℕ → ℕ
+unfoldable pub judge_later : Profile → List ℕ → ℕ → Result Unit Refusal
 judge_later p ns v =
-    pick (eqb ((length ns - fixed_numbers) / 2) (get_or ns at_metrics 0)) (unless 10 (leb v most_entries))
-    (unless 10 (pick (type_allowed p v) (type_rises ns v) false))
+    pick (eqb ((length ns - fixed_numbers) / 2) (get_or ns at_metrics 0)) (unless BrokenCount (leb v most_entries))
+    (unless BrokenCount (pick (type_allowed p v) (type_rises ns v) false))
 
--- "The sum (11) is checked after lost; 10 after each count or type"; 0 for no refusal, as for a metric's value
-unfoldable pub judge : Profile → List ℕ → ℕ → ℕ
+-- "The sum (11) is checked after lost; 10 after each count or type"; nothing is refused of a metric's value
+unfoldable pub judge : Profile → List ℕ → ℕ → Result Unit Refusal
 judge p ns v =
-    pick (eqb (length ns) at_lost) (unless 11 (eqb (get_or ns at_total 0) (get_or ns at_received 0 + get_or ns at_late 0 + v)))
-    (pick (eqb (length ns) at_metrics) (unless 10 (leb v (most_metrics p)))
-    (pick (ltb (length ns) fixed_numbers) 0
-    (pick (eqb (length ns % 2) 1) 0
+    pick (eqb (length ns) at_lost) (unless OtherTotal (eqb (get_or ns at_total 0) (get_or ns at_received 0 + get_or ns at_late 0 + v)))
+    (pick (eqb (length ns) at_metrics) (unless BrokenCount (leb v (most_metrics p)))
+    (pick (ltb (length ns) fixed_numbers) (Ok tt)
+    (pick (eqb (length ns % 2) 1) (Ok tt)
     (judge_later p ns v))))
 
 -- what a field brings to a reader: "15, given at the field, before 10 and 11" (02, No. 5), then what its number does
-abbrev pub judge_field : Profile → List ℕ → ℕ → Bool → ℕ
-judge_field p ns v shortest = pick shortest (judge p ns v) 15
+abbrev pub judge_field : Profile → List ℕ → ℕ → Bool → Result Unit Refusal
+judge_field p ns v shortest = pick shortest (judge p ns v) (Err LongerForm)
 
 -- the first refusal of the numbers vs that follow ns
-unfoldable pub fault_after : Profile → List ℕ → List ℕ → ℕ
-fault_after p ns [] = 0
-fault_after p ns (v ∷ vs) = pick (eqb (judge p ns v) 0) (fault_after p (ns ++ (v ∷ [])) vs) (judge p ns v)
+unfoldable pub fault_after : Profile → List ℕ → List ℕ → Result Unit Refusal
+fault_after p ns [] = Ok tt
+fault_after p ns (v ∷ vs) = heeding (judge p ns v) Err (fault_after p (ns ++ (v ∷ [])) vs)
 
-abbrev pub first_fault : Profile → List ℕ → ℕ
+abbrev pub first_fault : Profile → List ℕ → Result Unit Refusal
 first_fault p vs = fault_after p [] vs
 
 -- how many numbers there are with the entry count, as far as the numbers so far tell

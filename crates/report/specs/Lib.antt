@@ -5,7 +5,6 @@ pub mod Header
 pub mod Reader
 pub mod Head
 pub mod Writer
-pub mod Refusals
 pub mod Exactly
 pub mod EachWay
 pub mod Maximum

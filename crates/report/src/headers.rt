@@ -49,16 +49,7 @@ fn metrics_of(numbers: &[u64], part: usize) -> [u64; METRIC_PLACES]
     requires { part ≤ 1 }
     ensures { result ≡ each metric_places 0 (λ i. metric_at numbers.now i (fixed_numbers + 2 * i + part)) }
 {
-    [
-        metric_at(numbers, 0, part),
-        metric_at(numbers, 1, part),
-        metric_at(numbers, 2, part),
-        metric_at(numbers, 3, part),
-        metric_at(numbers, 4, part),
-        metric_at(numbers, 5, part),
-        metric_at(numbers, 6, part),
-        metric_at(numbers, 7, part),
-    ]
+    std::array::from_fn(|i: usize| metric_at(numbers, i, part))
 }
 
 // The header that the numbers are.
@@ -87,23 +78,11 @@ pub(crate) fn header_of(numbers: &[u64]) -> Header
 pub fn empty_header() -> Header
     ensures { result ≡ empty_header }
 {
-    let none = [0u64; METRIC_PLACES];
-    Header {
-        timestamp: 0,
-        interval: 0,
-        total: 0,
-        received: 0,
-        late: 0,
-        lost: 0,
-        average: 0,
-        metrics: 0,
-        kinds: none,
-        values: none,
-        entries: 0,
-    }
+    Header::default()
 }
 
-// The header's numbers in their order, with all metrics that it has places for, and a place for the entry count.
+// The header's numbers in their order, with all metrics that it has places for, and a place for the entry count. They are named one by one,
+// since a loop over metrics would hide the order that goes over the wire.
 pub(crate) fn numbers_of(header: Header) -> [u64; MOST_NUMBERS]
     ensures { result ≡ with_metrics header metric_places ++ (0 ∷ []) }
 {

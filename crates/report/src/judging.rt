@@ -8,6 +8,7 @@ ghost use Rattle.report.specs.Header.{judge, judge_field, judge_later, first_fau
 
 use crate::layout::{AT_LATE, AT_LOST, AT_METRICS, AT_RECEIVED, AT_TOTAL, FIXED};
 use entries::{MOST_ENTRIES, Profile};
+use wire::Refusal;
 
 // At most so many metrics in a report of the profile.
 pub fn most_metrics(profile: Profile) -> usize
@@ -33,13 +34,10 @@ fn type_allowed(profile: Profile, kind: u64) -> bool
 fn known_type(kind: u64) -> bool
     ensures { result ≡ type_allowed One kind }
 {
-    match kind {
-        0x02 | 0x04 | 0x10 | 0x12 => true,
-        _ => false,
-    }
+    matches!(kind, 0x02 | 0x04 | 0x10 | 0x12)
 }
 
-// Whether total is the sum of the three parts, with no sum that could wrap.
+// Whether total is the sum of the three parts, with no sum that could wrap. A chain of checked differences says it no plainer.
 fn adds_up(total: u64, received: u64, late: u64, lost: u64) -> bool
     ensures { result ≡ eqb total (received + late + lost) }
 {
@@ -53,44 +51,44 @@ fn adds_up(total: u64, received: u64, late: u64, lost: u64) -> bool
     rest - late == lost
 }
 
-// What a field brings, 0 for no refusal: 15 for a longer form, then what its number does. It is one step of the reader.
-pub fn judge_field(profile: Profile, numbers: &[u64], v: u64, shortest: bool) -> u64
+// What a field brings: 15 for a longer form, then what its number does. It is one step of the reader.
+pub fn judge_field(profile: Profile, numbers: &[u64], v: u64, shortest: bool) -> Result<(), Refusal>
     ensures { result ≡ judge_field profile numbers.now v shortest }
 {
     if !shortest {
-        return 15;
+        return Err(Refusal::LongerForm);
     }
     judge_next(profile, numbers, v)
 }
 
-// The refusal that v brings where it comes after the numbers so far, 0 for none: one step of the writer, and the reader's for a shortest form.
-fn judge_next(profile: Profile, numbers: &[u64], v: u64) -> u64
+// What v brings where it comes after the numbers so far: one step of the writer, and the reader's for a shortest form.
+fn judge_next(profile: Profile, numbers: &[u64], v: u64) -> Result<(), Refusal>
     ensures { result ≡ judge profile numbers.now v }
 {
     let n = numbers.len();
     if n == AT_LOST {
         if adds_up(numbers[AT_TOTAL], numbers[AT_RECEIVED], numbers[AT_LATE], v) {
-            return 0;
+            return Ok(());
         }
-        return 11;
+        return Err(Refusal::OtherTotal);
     }
     if n == AT_METRICS {
         if v <= most_metrics(profile) as u64 {
-            return 0;
+            return Ok(());
         }
-        return 10;
+        return Err(Refusal::BrokenCount);
     }
     if n < FIXED {
-        return 0;
+        return Ok(());
     }
     if n % 2 == 1 {
-        return 0;
+        return Ok(());
     }
     judge_later(profile, numbers, v)
 }
 
 // The same from the ninth number on, where a type or the entry count comes.
-fn judge_later(profile: Profile, numbers: &[u64], v: u64) -> u64
+fn judge_later(profile: Profile, numbers: &[u64], v: u64) -> Result<(), Refusal>
     requires { fixed_numbers ≤ length numbers.now }
     ensures { result ≡ judge_later profile numbers.now v }
 {
@@ -99,36 +97,35 @@ fn judge_later(profile: Profile, numbers: &[u64], v: u64) -> u64
     let metrics = numbers[AT_METRICS];
     if metric == metrics {
         if v <= MOST_ENTRIES as u64 {
-            return 0;
+            return Ok(());
         }
-        return 10;
+        return Err(Refusal::BrokenCount);
     }
     if !type_allowed(profile, v) {
-        return 10;
+        return Err(Refusal::BrokenCount);
     }
     if n == FIXED {
-        return 0;
+        return Ok(());
     }
-    if numbers[n - 2] < v { 0 } else { 10 }
+    if numbers[n - 2] < v {
+        Ok(())
+    } else {
+        Err(Refusal::BrokenCount)
+    }
 }
 
 // How many metrics are looked at: those of the count, up to the limit.
 pub(crate) fn looked_at(profile: Profile, metrics: u64) -> usize
     ensures { (result ≡ min metrics (most_metrics profile)) × (result ≤ metric_places) }
 {
-    let most = most_metrics(profile);
-    if metrics <= most as u64 {
-        metrics as usize
-    } else {
-        most
-    }
+    metrics.min(most_metrics(profile) as u64) as usize
 }
 
 // The number at i, 0 past the last.
 pub fn number_at(numbers: &[u64], i: usize) -> u64
     ensures { result ≡ get_or numbers.now i 0 }
 {
-    if i < numbers.len() { numbers[i] } else { 0 }
+    numbers.get(i).copied().unwrap_or(0)
 }
 
 // How many numbers the header has, as far as the numbers so far tell.
@@ -143,20 +140,16 @@ pub fn wanted(profile: Profile, numbers: &[u64]) -> usize
 pub fn last_of(numbers: &[u64]) -> u64
     ensures { result ≡ count_of numbers.now }
 {
-    let n = numbers.len();
-    if n == 0 {
-        return 0;
-    }
-    numbers[n - 1]
+    numbers.last().copied().unwrap_or(0)
 }
 
-// The first refusal that the numbers bring, each judged after those before it; 0 for none. Only the sum, the metric count and each type
+// The first refusal that the numbers bring, each judged after those before it. Only the sum, the metric count and each type
 // or count behind can bring one, so no other number is looked at.
-pub fn first_fault(profile: Profile, numbers: &[u64]) -> u64
+pub fn first_fault(profile: Profile, numbers: &[u64]) -> Result<(), Refusal>
     ensures { result ≡ first_fault profile numbers.now }
 {
     if numbers.len() <= AT_LOST {
-        return 0;
+        return Ok(());
     }
     if !adds_up(
         numbers[AT_TOTAL],
@@ -164,19 +157,14 @@ pub fn first_fault(profile: Profile, numbers: &[u64]) -> u64
         numbers[AT_LATE],
         numbers[AT_LOST],
     ) {
-        return 11;
+        return Err(Refusal::OtherTotal);
     }
     let most = most_metrics(profile) as u64;
     if most < number_at(numbers, AT_METRICS) {
-        return 10;
+        return Err(Refusal::BrokenCount);
     }
-    let mut i: usize = FIXED;
-    while i < numbers.len() {
-        let refusal = judge_later(profile, &numbers[..i], numbers[i]);
-        if refusal != 0 {
-            return refusal;
-        }
-        i += 2;
+    for i in (FIXED..numbers.len()).step_by(2) {
+        judge_later(profile, &numbers[..i], numbers[i])?;
     }
-    0
+    Ok(())
 }

@@ -4,18 +4,13 @@
 
 #![tactic(auto)]
 
-ghost use Rattle.std.specs.Prelude.{◌≡◌};
-ghost use Rattle.report.specs.Refusals.{written_refusal};
-
 mod head;
 mod headers;
 mod judging;
 pub mod layout;
-mod profiles;
 mod reader;
 mod writer;
 
-use entries::Profile;
 pub use entries::{Entry, Status, read_entry};
 pub use head::read_head;
 pub use headers::{average, empty_header};
@@ -29,9 +24,9 @@ pub const METRIC_PLACES: usize = 8;
 // The numbers that every header has, a type and a value for each metric, and the entry count.
 pub const MOST_NUMBERS: usize = layout::FIXED + 2 * METRIC_PLACES + 1;
 
-// The summary of a report, and what comes with it. On a refusal all numbers are 0.
+// The summary of a report, and what comes with it. On a refusal all numbers are 0. Types and values stand in two arrays, as C has them.
 #[repr(C)]
-#[derive(Clone, Copy)]
+#[derive(Clone, Copy, Default)]
 pub struct Header {
     // when the report was made, in microseconds
     pub timestamp: u64,
@@ -57,7 +52,7 @@ pub struct Header {
     pub entries: u64,
 }
 
-// What reading a report finds: 0 and its header, or a refusal and the empty header.
+// What reading a report finds: 0 and its header, or a refusal and the empty header. It is the record of the C interface, and so no Result.
 #[repr(C)]
 #[derive(Clone, Copy)]
 pub struct Report {
@@ -65,45 +60,24 @@ pub struct Report {
     pub header: Header,
 }
 
-// What the header's numbers say of the entries: 0, the place where they begin and how many there are, or a refusal.
+// What the header's numbers say of the entries: the place where they begin, and how many there are.
 #[derive(Clone, Copy)]
 pub struct Announced {
-    pub refusal: u64,
     pub next: usize,
     pub entries: u64,
 }
 
-// What the writer answers: the place after the report and how many records were kept, or the refusal.
+// A report that was written: the place after it, and how many records were kept.
 #[derive(Clone, Copy)]
-pub enum Written {
-    Done { next: usize, kept: usize },
-    Refused(u64),
+pub struct Written {
+    pub next: usize,
+    pub kept: usize,
 }
 
-// What the number that the caller passed stands for.
-#[derive(Clone, Copy)]
-enum Asked {
-    For(Profile),
-    NoProfile,
-}
-
-// The numbers of a report as far as they were read: 0 or a refusal, the place after them, how many they are, and the numbers themselves.
+// The numbers of a report that were read: the place after them, how many they are, and the numbers themselves, in memory of a fixed size.
 #[derive(Clone, Copy)]
 struct NumbersRead {
-    refusal: u64,
     next: usize,
     count: usize,
     numbers: [u64; MOST_NUMBERS],
-}
-
-impl Written {
-    // The paper's number for the answer, 0 for accepted.
-    pub fn refusal(self) -> u64
-        ensures { result ≡ written_refusal self }
-    {
-        match self {
-            Written::Done { next: _, kept: _ } => 0,
-            Written::Refused(n) => n,
-        }
-    }
 }

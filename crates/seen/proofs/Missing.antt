@@ -5,7 +5,7 @@ use mathlib.Core.Path.{◌≡◌, ap}
 use native.Mathlib.Nat.{le-max_left, le-max_right, min-le_left, min-le_right}
 use native.Mathlib.Omega.{arith}
 use Rattle.window.specs.Window.{value_of, first_clear}
-use Rattle.window.specs.declared.Missing.TheVariants.{At, Nothing}
+use Rattle.std.specs.Prelude.{Some, None}
 use Rattle.window.proofs.Laws.{missing-says}
 use Rattle.seen.specs.declared.Seen.{Seen}
 use Rattle.seen.specs.Received.{floor, place_of, first_missing}
@@ -22,7 +22,7 @@ module _ (s : Seen) (from to : ℕ) where
   abbrev highest : ℕ
   highest = place_of s.end (min to s.end)
 
-  module _ (place : ℕ) (e : first_missing s from to ≡ At place) where
+  module _ (place : ℕ) (e : first_missing s from to ≡ Some place) where
     -- a missing number of the window is at or above the floor
     pub place-least : 1024 ≤ place + s.end
     unfolding first_missing
@@ -36,11 +36,11 @@ module _ (s : Seen) (from to : ℕ) where
         (omega (arith, min-le_right to s.end), omega (arith, min-le_left to s.end))
 
   -- nothing is missing where nothing is asked for
-  pub none-sought : min to s.end ≤ max from (floor s) → Nothing ≡ first_missing s from to
+  pub none-sought : min to s.end ≤ max from (floor s) → None ≡ first_missing s from to
   unfolding first_missing first_clear
   none-sought h =
       let e : 0 ≡ highest - lowest = not-higher (min to s.end) (max from (floor s)) s.end h in
       ap (λ (n : ℕ). first_clear n lowest (value_of s.window)) e
 
-  pub none_between : to ≤ from → Nothing ≡ first_missing s from to
+  pub none_between : to ≤ from → None ≡ first_missing s from to
   none_between h = none-sought (omega (arith, min-le_left to s.end, le-max_left from (floor s)))

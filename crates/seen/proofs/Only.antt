@@ -8,10 +8,6 @@ use Rattle.seen.proofs.numbers.all_small.Reads as all_small
 use Rattle.seen.proofs.numbers.all_small.Kinds as all-small-kinds
 use Rattle.seen.proofs.numbers.is_small_end.Reads as is-small-end
 use Rattle.seen.proofs.numbers.is_small_end.Kinds as is-small-end-kinds
-use Rattle.seen.proofs.numbers.minus_or_zero.Reads as minus-or-zero
-use Rattle.seen.proofs.numbers.minus_or_zero.Kinds as minus-or-zero-kinds
-use Rattle.seen.proofs.numbers.larger_of.Reads as larger-of
-use Rattle.seen.proofs.numbers.larger_of.Kinds as larger-of-kinds
 use Rattle.seen.proofs.Seen.numbers_obey.Reads as numbers-obey
 use Rattle.seen.proofs.Seen.numbers_obey.Kinds as numbers-obey-kinds
 use Rattle.seen.proofs.Seen.consistent.Reads as consistent
@@ -22,8 +18,8 @@ use Rattle.seen.proofs.Seen.confirm.Reads as confirming
 use Rattle.seen.proofs.Seen.confirm.Kinds as confirming-kinds
 use Rattle.seen.proofs.Seen.marks_fit.Reads as marks-fit
 use Rattle.seen.proofs.Seen.marks_fit.Kinds as marks-fit-kinds
-use Rattle.seen.proofs.Seen.refusal_in.Reads as refusal-in
-use Rattle.seen.proofs.Seen.refusal_in.Kinds as refusal-in-kinds
+use Rattle.seen.proofs.Seen.check_in.Reads as check-in
+use Rattle.seen.proofs.Seen.check_in.Kinds as check-in-kinds
 use Rattle.seen.proofs.Seen.with_in.Reads as marking-in
 use Rattle.seen.proofs.Seen.with_in.Kinds as marking-in-kinds
 use Rattle.seen.proofs.Seen.first_missing_in.Reads as first-missing-in
@@ -37,12 +33,6 @@ all-small-one κs given x y s t p q = p ∙ sym q
 
 pub is-small-end-one : OneAnswer 0 is-small-end-kinds.ps is-small-end-kinds.r is-small-end.Post
 is-small-end-one κs given x y s t p q = p ∙ sym q
-
-pub minus-or-zero-one : OneAnswer 0 minus-or-zero-kinds.ps minus-or-zero-kinds.r minus-or-zero.Post
-minus-or-zero-one κs given x y s t p q = p ∙ sym q
-
-pub larger-of-one : OneAnswer 0 larger-of-kinds.ps larger-of-kinds.r larger-of.Post
-larger-of-one κs given x y s t p q = p ∙ sym q
 
 pub numbers-obey-one : OneAnswer 0 numbers-obey-kinds.ps numbers-obey-kinds.r numbers-obey.Post
 numbers-obey-one κs given x y s t p q = p ∙ sym q
@@ -59,8 +49,8 @@ confirming-one κs given x y s t p q = p ∙ sym q
 pub marks-fit-one : OneAnswer 1 marks-fit-kinds.ps marks-fit-kinds.r marks-fit.Post
 marks-fit-one κs given x y s t p q = p ∙ sym q
 
-pub refusal-in-one : OneAnswer 1 refusal-in-kinds.ps refusal-in-kinds.r refusal-in.Post
-refusal-in-one κs given x y s t p q = p ∙ sym q
+pub check-in-one : OneAnswer 1 check-in-kinds.ps check-in-kinds.r check-in.Post
+check-in-one κs given x y s t p q = p.0 ∙ sym q.0
 
 pub marking-in-one : OneBuffer 1 marking-in-kinds.ps marking-in-kinds.r (λ κs s. s.1.0.now) marking-in.Post
 marking-in-one κs given x y s t p q = (p.0 ∙ sym q.0, p.1 ∙ sym q.1)

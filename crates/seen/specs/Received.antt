@@ -1,11 +1,11 @@
 -- What was received: the window and its floor, what consistent means of it, refusals 6 and 7, what an accepted number marks, what is reported, and the missing numbers.
 -- What may be absent is kept as an end, one past the number, and 0 for none.
-use Rattle.std.specs.Prelude.{ℕ, ◌+◌, ◌-◌, ◌/◌, ◌^◌, min, max, Bool, true, false, ◌&&◌, ◌||◌, List, leb, ltb, eqb}
+use Rattle.std.specs.Prelude.{ℕ, ◌+◌, ◌-◌, ◌/◌, ◌^◌, min, max, Bool, true, false, ◌&&◌, ◌||◌, List, leb, ltb, eqb, Option, Some, None, Result, Ok, Err}
 use Rattle.wire.specs.Bytes.{pick}
+use Rattle.wire.specs.declared.Refusal.{Refusal}
+use Rattle.wire.specs.declared.Refusal.TheVariants.{Received, BelowWindow}
 use Rattle.window.specs.Window.{places, value_of, window_of, is_set, with_bit, none_below, cleared_below, first_clear}
 use Rattle.window.specs.declared.Window.{Window}
-use Rattle.window.specs.declared.Missing.{Missing}
-use Rattle.window.specs.declared.Missing.TheVariants.{At, Nothing}
 use Rattle.seen.specs.declared.Micros.{Micros}
 use Rattle.seen.specs.declared.Seen.{Seen}
 use Rattle.seen.specs.Numbers.{small, small_end}
@@ -58,6 +58,10 @@ seen_consistent s = numbers_obey s && marks_consistent s
 unfoldable pub number_refusal : Seen → ℕ → ℕ
 number_refusal s n = pick (leb s.end n) 0 (pick (ltb n (floor s)) 7 (pick (received s n) 6 0))
 
+-- the same by name
+unfoldable pub number_check : Seen → ℕ → Result Unit Refusal
+number_check s n = pick (leb s.end n) (Ok tt) (pick (ltb n (floor s)) (Err BelowWindow) (pick (received s n) (Err Received) (Ok tt)))
+
 -- ---- "Accepted packets are marked and L moves if exceeded"
 
 abbrev pub mark_at : Window → ℕ → Window
@@ -89,11 +93,11 @@ reported s = record { window = window_of (cleared_below (place_of s.end (floor s
 -- ---- "missing numbers are sought only in the window as it stands after this packet"
 
 -- the place of the first from `from` up to below `to`
-unfoldable pub first_missing : Seen → ℕ → ℕ → Missing
+unfoldable pub first_missing : Seen → ℕ → ℕ → Option ℕ
 first_missing s from to =
     let low = place_of s.end (max from (floor s)) in
     first_clear (place_of s.end (min to s.end) - low) low (value_of s.window)
 
-abbrev pub is_any : Missing → Bool
-is_any (At place) = true
-is_any Nothing = false
+abbrev pub is_any : Option ℕ → Bool
+is_any (Some place) = true
+is_any None = false

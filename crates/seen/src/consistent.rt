@@ -10,13 +10,9 @@ impl Seen {
     pub fn numbers_obey(self) -> bool
         ensures { result ≡ numbers_obey self }
     {
-        if !numbers::is_small_end(self.end) {
-            return false;
-        }
-        if !numbers::is_small(self.arrived.0) {
-            return false;
-        }
-        self.confirmed <= numbers::minus_or_zero(self.end, 1)
+        numbers::is_small_end(self.end)
+            && numbers::is_small(self.arrived.0)
+            && self.confirmed <= self.end.saturating_sub(1)
     }
 
     // Whether the marks of the lent words fit the end of L. From 1,024 numbers on every place stands for one, and the words are not looked through.
@@ -27,23 +23,15 @@ impl Seen {
         if window::PLACES <= end {
             return window::is_marked(words, window::LAST);
         }
-        if !window::none_below(words, window::PLACES - end) {
-            return false;
-        }
-        if end == 0 {
-            return true;
-        }
-        window::is_marked(words, window::LAST)
+        window::none_below(words, window::PLACES - end)
+            && (end == 0 || window::is_marked(words, window::LAST))
     }
 
     // Whether what was received is consistent. The window comes last: it costs most.
+    #[tactic(auto, unfolding(crate::specs::Received::seen_consistent))]
     pub fn consistent(self) -> bool
         ensures { result ≡ seen_consistent self }
     {
-        if !self.numbers_obey() {
-            return false;
-        }
-        let window = self.window;
-        self.marks_fit(&window.words)
+        self.numbers_obey() && self.marks_fit(&self.window.words)
     }
 }

@@ -15,7 +15,7 @@ pub mod numbers;
 #[derive(Clone, Copy)]
 pub struct Micros(pub u64);
 
-// What was received. What may be absent is kept as an end: one past the number, and 0 for none.
+// What was received. What may be absent is kept as an end, since an Option has no C layout: one past the number, and 0 for none.
 #[repr(C)]
 #[derive(Clone, Copy)]
 pub struct Seen {

@@ -1,18 +1,19 @@
 // The numbers of the window: which are refused, what an accepted one marks, which are reported no more, and the first that is missing.
 ghost use Rattle.std.specs.Prelude.{◌≡◌, ◌-◌, ◌≤◌};
 ghost use Rattle.wire.specs.Bytes.{pick};
+ghost use Rattle.wire.specs.Refusals.{refusal_number};
 ghost use Rattle.seen.specs.Numbers.{small};
-ghost use Rattle.seen.specs.Received.{over, floor, place_of, number_refusal, marked, confirmed_after, first_missing};
+ghost use Rattle.seen.specs.Received.{over, floor, place_of, number_check, number_refusal, marked, confirmed_after, first_missing};
 
 use crate::{Micros, Seen, numbers};
-use window::Missing;
+use wire::Refusal;
 
 // The place in the window of a number up to the end of L.
 fn place_of(end: u64, number: u64) -> u64
     requires { number ≤ end }
     ensures { result ≡ place_of end number }
 {
-    numbers::minus_or_zero(window::PLACES, end - number)
+    window::PLACES.saturating_sub(end - number)
 }
 
 impl Seen {
@@ -20,28 +21,30 @@ impl Seen {
     pub fn floor(self) -> u64
         ensures { result ≡ floor self }
     {
-        let lowest = numbers::minus_or_zero(self.end, window::PLACES);
-        numbers::larger_of(self.confirmed, lowest)
+        let lowest = self.end.saturating_sub(window::PLACES);
+        self.confirmed.max(lowest)
     }
 
-    // 7 below the floor, 6 from it on and marked in the lent words, 0 for a number that can be accepted.
-    pub fn refusal_in(self, words: &[u64; 16], number: u64) -> u64
-        ensures { result ≡ number_refusal (over words.now self) number }
+    // Whether the number can be accepted: it is refused below the floor, and from it on where it is marked in the lent words.
+    #[tactic(auto, unfolding(crate::specs::Received::number_check, crate::specs::Received::number_refusal))]
+    pub fn check_in(self, words: &[u64; 16], number: u64) -> Result<(), Refusal>
+        ensures { (result ≡ number_check (over words.now self) number) × (refusal_number result ≡ number_refusal (over words.now self) number) }
     {
         let end = self.end;
         if end <= number {
-            return 0;
+            return Ok(());
         }
         if number < self.floor() {
-            return 7;
+            return Err(Refusal::BelowWindow);
         }
         if window::is_marked(words, place_of(end, number)) {
-            return 6;
+            return Err(Refusal::Received);
         }
-        0
+        Ok(())
     }
 
     // Marks the number in the lent words, and hands back the rest; L moves if it is exceeded. A number that does not obey 5 changes nothing.
+    #[tactic(auto, unfolding(crate::specs::Received::seen_after))]
     pub fn with_in(self, words: &mut [u64; 16], number: u64, time: Micros) -> Seen
         ensures { (result ≡ over self.window.words (marked (over words.old self) number time))
             × (words.new ≡ (marked (over words.old self) number time).window.words) }
@@ -57,36 +60,40 @@ impl Seen {
         let end_after = number + 1;
         window::advance(words, end_after - end);
         window::mark(words, window::LAST);
-        let mut next = self;
-        next.end = end_after;
-        next.arrived = time;
-        next
+        Seen {
+            end: end_after,
+            arrived: time,
+            ..self
+        }
     }
 
     // With numbers up to k reported no more: the floor rises to k + 1, or to L where k is L, and never falls.
     // A k that does not obey 5 changes nothing.
+    #[tactic(auto, unfolding(crate::specs::Received::confirmed_after))]
     pub fn confirm(self, k: u64) -> Seen
         ensures { result ≡ pick (small k) (confirmed_after self k) self }
     {
         if !numbers::is_small(k) {
             return self;
         }
-        let largest = numbers::minus_or_zero(self.end, 1);
-        let risen = numbers::smaller_of(k + 1, largest);
-        let mut next = self;
-        next.confirmed = numbers::larger_of(self.confirmed, risen);
-        next
+        let largest = self.end.saturating_sub(1);
+        let risen = (k + 1).min(largest);
+        Seen {
+            confirmed: self.confirmed.max(risen),
+            ..self
+        }
     }
 
     // The place of the first missing number of the lent words from `from` up to below `to`.
-    pub fn first_missing_in(self, words: &[u64; 16], from: u64, to: u64) -> Missing
+    #[tactic(auto, unfolding(crate::specs::Received::first_missing))]
+    pub fn first_missing_in(self, words: &[u64; 16], from: u64, to: u64) -> Option<u64>
         ensures { result ≡ first_missing (over words.now self) from to }
     {
         let end = self.end;
-        let low = numbers::larger_of(from, self.floor());
-        let high = numbers::smaller_of(to, end);
+        let low = from.max(self.floor());
+        let high = to.min(end);
         if high <= low {
-            return Missing::Nothing;
+            return None;
         }
         window::first_missing(words, place_of(end, low), place_of(end, high))
     }

@@ -145,17 +145,14 @@ from-none : (ws : List ℕ) (from to floor n : ℕ) → ws ≡ with_range (repli
 from-none ws from to floor n r low high above below =
     ap (λ (l : List ℕ). mark l n) r ∙ range-marks (replicate 16 0) from to floor n refl low high above below ∙ ap (λ (x : Bool). x || between from to n) (no-mark n)
 
-pub due-none : (floor end : ℕ) → end ≤ 3 → DueMarks (replicate 16 0) floor end
-due-none floor end h = record { marks = λ small n above below. no-mark n ∙ sym (lt-leb (n + 4) end (omega arith)) }
-
-pub due-some : (ws : List ℕ) (floor end : ℕ) → 3 < end → ws ≡ with_range (replicate 16 0) (end - 3 - floor) floor → DueMarks ws floor end
-due-some ws floor end h r = record {
+pub due-is : (ws : List ℕ) (floor end to : ℕ) → to ≡ end - 3 → ws ≡ with_range (replicate 16 0) (to - floor) floor → DueMarks ws floor end
+due-is ws floor end to h r = record {
   marks = λ small n above below.
-      from-none ws floor (end - 3) floor n r (omega arith) (omega arith) above below
-      ∙ ap (λ (x : Bool). x && ltb n (end - 3)) (le-leb floor n above)
+      from-none ws floor to floor n r (omega arith) (omega arith) above below
+      ∙ ap (λ (x : Bool). x && ltb n to) (le-leb floor n above)
       ∙ elim (dec_le (n + 4) end) [
-        | yes l ↦ lt-ltb n (end - 3) (omega arith) ∙ sym (le-leb (n + 4) end l)
-        | no l ↦ le-ltb n (end - 3) (omega arith) ∙ sym (lt-leb (n + 4) end (omega arith))
+        | yes l ↦ lt-ltb n to (omega arith) ∙ sym (le-leb (n + 4) end l)
+        | no l ↦ le-ltb n to (omega arith) ∙ sym (lt-leb (n + 4) end (omega arith))
       ];
 }
 

@@ -2,25 +2,29 @@
 -- Assumes nothing.
 use Prim.Native.Nat.{ℕ, ◌≤◌, ◌<◌}
 use mathlib.Core.Path.{◌≡◌, refl, ap₂}
-use mathlib.Core.Logic.{inl, inr}
+use mathlib.Core.Logic.{inl, inr, ⊎_elim}
 use mathlib.Core.Bool.{Bool, true, false, ◌&&◌}
-use mathlib.Core.List.{List}
+use mathlib.Core.List.{List, [], ◌∷◌}
 use native.Mathlib.Omega.{arith}
 use borrow.Author.Tests.{le-leb, leb-true, leb-false, ltb-true, ltb-false, eqb-false}
 use lib.Dec.{leb, ltb}
 use lib.ListN.{length}
+use Rattle.std.specs.Prelude.{Result, Ok, Err}
 use Rattle.wire.specs.Bytes.{pick}
 use Rattle.wire.specs.Numbers.{limit}
-use Rattle.frames.specs.Ack.{ranges_from, check_ack}
+use Rattle.wire.specs.Exactly.{OneOf}
+use Rattle.wire.specs.Refusals.{number_of, refusal_number}
+use Rattle.wire.specs.declared.Refusal.{Refusal}
+use Rattle.frames.specs.Ack.{check_ack}
 use Rattle.frames.specs.declared.Checked.{Checked}
-use Rattle.frames.specs.declared.Checked.TheVariants.{Frame, Ends, OtherType, BelowZero}
-use Rattle.frames.specs.declared.Tail.{Tail}
+use Rattle.frames.proofs.CheckRows.{ack-checks}
 use Rattle.frames.proofs.Rows.{never, here}
 use Rattle.sent.specs.Record.{is_acknowledged, is_lost, most_held, next_of, consistent}
 use Rattle.sent.specs.Calls.{is_held_back, send_refusal}
-use Rattle.sent.specs.Heard.{end_after, newly_in, Hearing, refused_as, hear_ranges, hear_checked, hear}
+use Rattle.sent.specs.Heard.{ranges_of, end_after, newly_in, Hearing, refused_as, hear_ranges, hear_checked, hear}
 use Rattle.sent.specs.Exactly.{Consistent, IsFull, SendRows, HasRoom, HeardRows, Exactly}
 use Rattle.sent.proofs.Numbers.{left, right}
+use Rattle.sent.proofs.Refusals.{is_numbered}
 use Rattle.sent.proofs.Sound.{clash, sound, not_sound}
 
 -- ---- a send
@@ -70,8 +74,12 @@ send_rows r true true false p q t =
 
 -- ---- a frame
 
+-- a number of the ACK reader's check is one of its rows
+by-row : {n : ℕ} {P : Type 0} → OneOf n (0 ∷ 2 ∷ 3 ∷ 14 ∷ []) → (n ≡ 0 → P) → (n ≡ 2 → P) → (n ≡ 3 → P) → (n ≡ 14 → P) → P
+by-row o a b c d = ⊎_elim a (⊎_elim b (⊎_elim c (⊎_elim d (λ x. absurd x)))) o
+
 module _ (r s : List ℕ) (ackedRoom lostRoom : ℕ) where
-  refused-one : (k : Checked) → consistent r ≡ false → HeardRows r s ackedRoom lostRoom k 1
+  refused-one : (k : Result Checked Refusal) → consistent r ≡ false → HeardRows r s ackedRoom lostRoom k 1
   refused-one k e =
       let n = not_sound r e in
       record {
@@ -86,12 +94,18 @@ module _ (r s : List ℕ) (ackedRoom lostRoom : ℕ) where
       }
 
   module _ (c : Consistent r) where
-    module _ (largest delay at count used : ℕ) (tail : Tail) where
-      abbrev k : Checked
-      k = Frame largest delay at count used tail
+    module _ (f : Checked) where
+      abbrev k : Result Checked Refusal
+      k = Ok f
+
+      abbrev largest : ℕ
+      largest = f.largest
+
+      abbrev used : ℕ
+      used = f.used
 
       abbrev pairs : List ℕ
-      pairs = (ranges_from count s at largest).pairs
+      pairs = (ranges_of s f).pairs
 
       not-sent : next_of r ≤ largest → HeardRows r s ackedRoom lostRoom k 16
       not-sent h = record {
@@ -141,41 +155,25 @@ module _ (r s : List ℕ) (ackedRoom lostRoom : ℕ) where
       by-largest true e = by-room (ltb-true largest (next_of r) e) (leb (length (newly_in is_acknowledged r pairs (end_after r largest))) ackedRoom) (leb (length (newly_in is_lost r pairs (end_after r largest))) lostRoom) refl refl _ _ refl refl
       by-largest false e = let h = ltb-false largest (next_of r) e in not-sent (omega arith)
 
-    rows_of : (k : Checked) → HeardRows r s ackedRoom lostRoom k (hear_checked r s ackedRoom lostRoom k).result
-    rows_of Ends = record {
-      one = never (eqb-false 2 1 refl) (λ x. x c);
-      two = here (c, refl);
-      three = never (eqb-false 2 3 refl) (λ x. eqb-false 2 3 refl x.1);
-      fourteen = never (eqb-false 2 14 refl) (λ x. eqb-false 2 14 refl x.1);
-      sixteen = never (eqb-false 2 16 refl) (λ x. x.1);
-      nine = never (eqb-false 2 9 refl) (λ x. x.1);
-      accepted = never (eqb-false 2 0 refl) (λ x. x.1);
-      others = inr (inr (inl refl));
+    -- the ACK reader's own refusals
+    rows_of_refusal : (refusal : Refusal) → OneOf (number_of refusal) (0 ∷ 2 ∷ 3 ∷ 14 ∷ []) → HeardRows r s ackedRoom lostRoom (Err refusal) (number_of refusal)
+    rows_of_refusal refusal o = record {
+      one = never (λ e. by-row o (λ f. omega arith) (λ f. omega arith) (λ f. omega arith) (λ f. omega arith)) (λ x. x c);
+      two = (λ e. (c, e), λ x. x.1);
+      three = (λ e. (c, e), λ x. x.1);
+      fourteen = (λ e. (c, e), λ x. x.1);
+      sixteen = never (λ e. by-row o (λ f. omega arith) (λ f. omega arith) (λ f. omega arith) (λ f. omega arith)) (λ x. x.1);
+      nine = never (λ e. by-row o (λ f. omega arith) (λ f. omega arith) (λ f. omega arith) (λ f. omega arith)) (λ x. x.1);
+      accepted = never (is_numbered refusal) (λ x. x.1);
+      others = by-row o (λ e. inl e) (λ e. inr (inr (inl e))) (λ e. inr (inr (inr (inl e)))) (λ e. inr (inr (inr (inr (inr (inl e))))));
     }
-    rows_of OtherType = record {
-      one = never (eqb-false 3 1 refl) (λ x. x c);
-      two = never (eqb-false 3 2 refl) (λ x. eqb-false 3 2 refl x.1);
-      three = here (c, refl);
-      fourteen = never (eqb-false 3 14 refl) (λ x. eqb-false 3 14 refl x.1);
-      sixteen = never (eqb-false 3 16 refl) (λ x. x.1);
-      nine = never (eqb-false 3 9 refl) (λ x. x.1);
-      accepted = never (eqb-false 3 0 refl) (λ x. x.1);
-      others = inr (inr (inr (inl refl)));
-    }
-    rows_of BelowZero = record {
-      one = never (eqb-false 14 1 refl) (λ x. x c);
-      two = never (eqb-false 14 2 refl) (λ x. eqb-false 14 2 refl x.1);
-      three = never (eqb-false 14 3 refl) (λ x. eqb-false 14 3 refl x.1);
-      fourteen = here (c, refl);
-      sixteen = never (eqb-false 14 16 refl) (λ x. x.1);
-      nine = never (eqb-false 14 9 refl) (λ x. x.1);
-      accepted = never (eqb-false 14 0 refl) (λ x. x.1);
-      others = inr (inr (inr (inr (inr (inl refl)))));
-    }
-    rows_of (Frame largest delay at count used tail) = by-largest largest delay at count used tail (ltb largest (next_of r)) refl
+
+    rows_of : (k : Result Checked Refusal) → OneOf (refusal_number k) (0 ∷ 2 ∷ 3 ∷ 14 ∷ []) → HeardRows r s ackedRoom lostRoom k (hear_checked r s ackedRoom lostRoom k).result
+    rows_of (Err refusal) o = rows_of_refusal refusal o
+    rows_of (Ok f) o = by-largest f (ltb f.largest (next_of r)) refl
 
   heard-rows : (a : Bool) → consistent r ≡ a → HeardRows r s ackedRoom lostRoom (check_ack s) (pick a (hear_checked r s ackedRoom lostRoom (check_ack s)) (refused_as 1 r)).result
-  heard-rows true e = rows_of (sound r e) (check_ack s)
+  heard-rows true e = rows_of (sound r e) (check_ack s) (ack-checks s).others
   heard-rows false e = refused-one (check_ack s) e
 
 pub exactly : Exactly

@@ -9,16 +9,16 @@ use borrow.Author.Tests.{le-leb, lt-leb, lt-ltb, le-ltb}
 use lib.Dec.{leb}
 use lib.ListN.{length, take}
 use lib.Seq.{take_all}
+use Rattle.std.specs.Prelude.{Result, Ok}
 use Rattle.wire.specs.Bytes.{pick, splice}
 use Rattle.wire.proofs.Bytes.{splice-none}
-use Rattle.frames.specs.Ack.{ranges_from, check_ack}
+use Rattle.wire.specs.declared.Refusal.{Refusal}
+use Rattle.frames.specs.Ack.{check_ack}
 use Rattle.frames.specs.declared.Checked.{Checked}
-use Rattle.frames.specs.declared.Checked.TheVariants.{Frame}
-use Rattle.frames.specs.declared.Tail.{Tail}
 use Rattle.marks.specs.Marks.{mark, listed}
 use Rattle.marks.proofs.Listing.{listed_same}
 use Rattle.sent.specs.Record.{is_acknowledged, is_lost, next_of, acked_before, lost_before, floor_of, acked_at, lost_at, state_of, state_at, is_due, DueMarks, record_of, consistent}
-use Rattle.sent.specs.Heard.{within, end_after, heard_state, state_after, newly, newly_in, Hearing, refused_as, accepted_as, hear_ranges, hear_checked, hear, IsHeard, FrameMarks, AckedAnew, LostAnew, Changed}
+use Rattle.sent.specs.Heard.{within, end_after, heard_state, state_after, newly, newly_in, Hearing, refused_as, accepted_as, ranges_of, hear_ranges, hear_checked, hear, IsHeard, FrameMarks, AckedAnew, LostAnew, Changed}
 use Rattle.sent.specs.declared.Reply.{Reply}
 use Rattle.sent.proofs.Records.{record_is}
 
@@ -184,19 +184,19 @@ module _ (r s : List ℕ) (ackedRoom lostRoom : ℕ) {b : Bool} (e : b ≡ consi
   unfolding hear
   one f = sym (ap (λ (x : Bool). pick x (hear_checked r s ackedRoom lostRoom (check_ack s)) (refused_as 1 r)) (sym e ∙ f))
 
-  module _ (f : b ≡ true) {k : Checked} (d : k ≡ check_ack s) where
-    pub checked : (v : Checked) → k ≡ v → hear_checked r s ackedRoom lostRoom v ≡ hear r s ackedRoom lostRoom
+  module _ (f : b ≡ true) {k : Result Checked Refusal} (d : k ≡ check_ack s) where
+    pub checked : (v : Result Checked Refusal) → k ≡ v → hear_checked r s ackedRoom lostRoom v ≡ hear r s ackedRoom lostRoom
     unfolding hear
     checked v t =
         ap (hear_checked r s ackedRoom lostRoom) (sym t ∙ d) ∙ sym (ap (λ (x : Bool). pick x (hear_checked r s ackedRoom lostRoom (check_ack s)) (refused_as 1 r)) (sym e ∙ f))
 
-    module _ {largest delay at count used : ℕ} {tail : Tail} (t : k ≡ Frame largest delay at count used tail) where
-      pub never-sent : next_of r ≤ largest → refused_as 16 r ≡ hear r s ackedRoom lostRoom
+    module _ {c : Checked} (t : k ≡ Ok c) where
+      pub never-sent : next_of r ≤ c.largest → refused_as 16 r ≡ hear r s ackedRoom lostRoom
       never-sent h =
-          sym (ap (λ (x : Bool). pick x (hear_ranges r (ranges_from count s at largest).pairs (end_after r largest) used ackedRoom lostRoom) (refused_as 16 r)) (le-ltb largest (next_of r) h))
-          ∙ checked (Frame largest delay at count used tail) t
+          sym (ap (λ (x : Bool). pick x (hear_ranges r (ranges_of s c).pairs (end_after r c.largest) c.used ackedRoom lostRoom) (refused_as 16 r)) (le-ltb c.largest (next_of r) h))
+          ∙ checked (Ok c) t
 
-      pub was-sent : largest < next_of r → hear_ranges r (ranges_from count s at largest).pairs (end_after r largest) used ackedRoom lostRoom ≡ hear r s ackedRoom lostRoom
+      pub was-sent : c.largest < next_of r → hear_ranges r (ranges_of s c).pairs (end_after r c.largest) c.used ackedRoom lostRoom ≡ hear r s ackedRoom lostRoom
       was-sent h =
-          sym (ap (λ (x : Bool). pick x (hear_ranges r (ranges_from count s at largest).pairs (end_after r largest) used ackedRoom lostRoom) (refused_as 16 r)) (lt-ltb largest (next_of r) h))
-          ∙ checked (Frame largest delay at count used tail) t
+          sym (ap (λ (x : Bool). pick x (hear_ranges r (ranges_of s c).pairs (end_after r c.largest) c.used ackedRoom lostRoom) (refused_as 16 r)) (lt-ltb c.largest (next_of r) h))
+          ∙ checked (Ok c) t

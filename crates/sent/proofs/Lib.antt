@@ -9,3 +9,4 @@ pub mod Sound
 pub mod Exactly
 pub mod Stays
 pub mod Only
+pub mod Refusals

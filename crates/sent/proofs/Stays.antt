@@ -6,13 +6,15 @@ use mathlib.Core.Bool.{Bool, true, false, ◌&&◌}
 use mathlib.Core.List.{List, []}
 use lib.Dec.{leb, ltb}
 use lib.ListN.{length}
+use Rattle.std.specs.Prelude.{Result, Ok, Err}
 use Rattle.wire.specs.Bytes.{pick}
-use Rattle.frames.specs.Ack.{ranges_from, check_ack}
+use Rattle.wire.specs.Refusals.{number_of}
+use Rattle.wire.specs.declared.Refusal.{Refusal}
+use Rattle.frames.specs.Ack.{check_ack}
 use Rattle.frames.specs.declared.Checked.{Checked}
-use Rattle.frames.specs.declared.Checked.TheVariants.{Frame, Ends, OtherType, BelowZero}
 use Rattle.sent.specs.Record.{is_acknowledged, is_lost, next_of, consistent}
 use Rattle.sent.specs.Calls.{send_refusal, unless_refused, with_sent}
-use Rattle.sent.specs.Heard.{end_after, newly_in, Hearing, refused_as, accepted_as, hear_ranges, hear_checked, hear}
+use Rattle.sent.specs.Heard.{ranges_of, end_after, newly_in, Hearing, refused_as, accepted_as, hear_ranges, hear_checked, hear}
 use Rattle.sent.specs.Exactly.{Unchanged}
 
 stays : {A : Type 0} (f : ℕ) (old new : A) → (f ≡ 0 → ⊥) → unless_refused f old new ≡ old
@@ -41,14 +43,12 @@ ranges-stay r pairs end used ackedRoom lostRoom =
     either_stays r (leb (length (newly_in is_acknowledged r pairs end)) ackedRoom && leb (length (newly_in is_lost r pairs end)) lostRoom) (accepted_as r pairs end used) (refused_as 9 r)
     (accepted-stays r (accepted_as r pairs end used) refl) (refused-stays r 9)
 
-checked-stays : (r s : List ℕ) (ackedRoom lostRoom : ℕ) (k : Checked) → Stays r (hear_checked r s ackedRoom lostRoom k)
-checked-stays r s ackedRoom lostRoom Ends = refused-stays r 2
-checked-stays r s ackedRoom lostRoom OtherType = refused-stays r 3
-checked-stays r s ackedRoom lostRoom BelowZero = refused-stays r 14
-checked-stays r s ackedRoom lostRoom (Frame largest delay at count used tail) =
-    let pairs : List ℕ = (ranges_from count s at largest).pairs in
-    either_stays r (ltb largest (next_of r)) (hear_ranges r pairs (end_after r largest) used ackedRoom lostRoom) (refused_as 16 r)
-    (ranges-stay r pairs (end_after r largest) used ackedRoom lostRoom) (refused-stays r 16)
+checked-stays : (r s : List ℕ) (ackedRoom lostRoom : ℕ) (k : Result Checked Refusal) → Stays r (hear_checked r s ackedRoom lostRoom k)
+checked-stays r s ackedRoom lostRoom (Err refusal) = refused-stays r (number_of refusal)
+checked-stays r s ackedRoom lostRoom (Ok c) =
+    let pairs : List ℕ = (ranges_of s c).pairs in
+    either_stays r (ltb c.largest (next_of r)) (hear_ranges r pairs (end_after r c.largest) c.used ackedRoom lostRoom) (refused_as 16 r)
+    (ranges-stay r pairs (end_after r c.largest) c.used ackedRoom lostRoom) (refused-stays r 16)
 
 pub hear-stays : (r s : List ℕ) (ackedRoom lostRoom : ℕ) → Stays r (hear r s ackedRoom lostRoom)
 unfolding hear

@@ -13,7 +13,7 @@ use lib.Seq.{get_or-set_same, get_or-set_other}
 use Rattle.window.specs.Window.{is_set}
 use Rattle.marks.proofs.Bits.{set-and, set-or, set-not}
 use Rattle.sent.specs.Record.{next_of, acked_before, lost_before}
-use Rattle.sent.specs.Heard.{Either, Without, AckedAnew, LostAnew, Changed}
+use Rattle.sent.specs.Heard.{Either, Without, Changed}
 
 pub either_is : (a b : ℕ) → a < 2 ^ 64 → b < 2 ^ 64 → Either (bit_or a b) a b
 either_is a b h l = record { fits = or_lt 64 a b h l; marks = set-or a b }
@@ -30,36 +30,13 @@ pub record Made (P : ℕ → ℕ → Type 0) (ws : List ℕ) (i : ℕ) : Type 0 
   pub long : length ws ≡ 16
   pub done : (j : ℕ) → j < i → P j (get_or ws j 0)
 
-pub made_none : (P : ℕ → ℕ → Type 0) → Made P (replicate 16 0) 0
-made_none P = record { long = refl; done = λ j h. absurd (omega arith) }
-
-pub made_more : (P : ℕ → ℕ → Type 0) (ws : List ℕ) (i x : ℕ) → i < 16 → Made P ws i → P i x → Made P (set ws i x) (i + 1)
-made_more P ws i x h m p = record {
-  long = length-set ws i x ∙ m.long;
-  done = λ j l. elim (dec_le i j) [
-    | yes k ↦ let e : i ≡ j = omega arith in subst (λ (q : ℕ). P q (get_or (set ws i x) q 0)) e (subst (P i) (sym (get_or-set_same ws i x 0 (omega (arith, m.long)))) p)
-    | no k ↦ subst (P j) (sym (get_or-set_other ws i j x 0 (λ e. k (omega arith)))) (m.done j (omega arith))
-  ];
-}
-
 -- the newly acknowledged
 abbrev pub NewAcked : List ℕ → List ℕ → ℕ → ℕ → Type 0
 NewAcked r frame j x = Without x (get_or frame j 0) (get_or r j 0)
 
-pub acked-made : (r frame ws : List ℕ) (i : ℕ) → 16 ≤ i → Made (NewAcked r frame) ws i → AckedAnew ws r frame
-acked-made r frame ws i h m = record { marks = λ n. (m.done (n / 64 % 16) (omega arith)).marks (n % 64) (omega arith) }
-
 -- the newly lost
 pub record NewLost (r frame due : List ℕ) (j x : ℕ) : Type 0 where
   pub marks : (k : ℕ) → k < 64 → is_set x k ≡ (is_set (get_or due j 0) k && not ((is_set (get_or r j 0) k || is_set (get_or r (16 + j) 0) k) || is_set (get_or frame j 0) k))
-
-pub new-lost : (r frame due : List ℕ) (j x marked all : ℕ) → Either marked (get_or r j 0) (get_or r (16 + j) 0) → Either all marked (get_or frame j 0) → Without x (get_or due j 0) all → NewLost r frame due j x
-new-lost r frame due j x marked all a b c = record {
-  marks = λ k h. c.marks k h ∙ ap (λ (y : Bool). is_set (get_or due j 0) k && not y) (b.marks k ∙ ap (λ (y : Bool). y || is_set (get_or frame j 0) k) (a.marks k));
-}
-
-pub lost-made : (r frame due ws : List ℕ) (i : ℕ) → 16 ≤ i → Made (NewLost r frame due) ws i → LostAnew ws r frame due
-lost-made r frame due ws i h m = record { marks = λ n. (m.done (n / 64 % 16) (omega arith)).marks (n % 64) (omega arith) }
 
 -- ---- the record afterwards, of which the words of the first i places are made
 

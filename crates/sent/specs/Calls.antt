@@ -1,9 +1,9 @@
 -- Opening and a send: what each refuses, and the record afterwards.
-use Rattle.std.specs.Prelude.{ℕ, zero, suc, ◌+◌, ◌-◌, ◌*◌, ◌/◌, ◌%◌, ◌^◌, Bool, true, false, not, ◌&&◌, List, leb, get_or, set, replicate}
+use Rattle.std.specs.Prelude.{ℕ, zero, suc, ◌+◌, ◌-◌, ◌*◌, ◌/◌, ◌%◌, ◌^◌, Bool, ◌&&◌, List, leb, get_or, set, replicate}
 use Rattle.wire.specs.Bytes.{pick}
 use Rattle.wire.specs.Numbers.{limit}
 use Rattle.window.specs.Words.{bit}
-use Rattle.sent.specs.Record.{most_held, next_of, acked_before, lost_before, floor_of, acked_at, lost_at, is_outstanding, consistent}
+use Rattle.sent.specs.Record.{most_held, next_of, acked_before, lost_before, floor_of, is_outstanding, consistent}
 use Rattle.sent.specs.declared.Sent.{Sent}
 
 -- nothing was sent

@@ -1,14 +1,14 @@
 -- The rows of the refusal table for the loss list's calls: each number is given exactly when its row says, the first fault first, and no other number is.
-use Rattle.std.specs.Prelude.{ℕ, ◌+◌, ◌-◌, ◌≤◌, ◌<◌, ◌≡◌, ◌↔◌, ◌⊎◌, Bool, true, List, [], ◌∷◌, length}
+use Rattle.std.specs.Prelude.{ℕ, ◌+◌, ◌-◌, ◌≤◌, ◌<◌, ◌≡◌, ◌↔◌, true, List, [], ◌∷◌, Result, Ok, Err, length}
 use Rattle.wire.specs.Numbers.{limit}
 use Rattle.wire.specs.Exactly.{OneOf}
-use Rattle.frames.specs.Ack.{ranges_from, check_ack}
-use Rattle.frames.specs.Refusals.{checked_refusal}
+use Rattle.wire.specs.Refusals.{refusal_number}
+use Rattle.wire.specs.declared.Refusal.{Refusal}
+use Rattle.frames.specs.Ack.{check_ack}
 use Rattle.frames.specs.declared.Checked.{Checked}
-use Rattle.frames.specs.declared.Checked.TheVariants.{Frame, Ends, OtherType, BelowZero}
 use Rattle.sent.specs.Record.{is_acknowledged, is_lost, most_held, next_of, acked_before, lost_before, end_of, floor_of, acked_at, lost_at, is_outstanding, consistent}
-use Rattle.sent.specs.Calls.{opened, send_refusal, send_after}
-use Rattle.sent.specs.Heard.{end_after, newly_in, hear}
+use Rattle.sent.specs.Calls.{send_refusal, send_after}
+use Rattle.sent.specs.Heard.{ranges_of, end_after, newly_in, hear}
 
 -- ---- 1: "a record whose parts disagree or break 5"
 
@@ -48,21 +48,19 @@ pub record SendRows (r : List ℕ) (refusal : ℕ) : Type 0 where
 -- ---- a frame: "after those of the ACK reader: 16 for an acknowledged number never sent, then 9 for a list without room"
 
 -- the frame is accepted by the ACK reader's check, and P holds of its largest and its ranges
-abbrev pub Checks : List ℕ → Checked → (ℕ → List ℕ → Type 0) → Type 0
-Checks s (Frame largest delay at count used tail) P = P largest (ranges_from count s at largest).pairs
-Checks s Ends P = ⊥
-Checks s OtherType P = ⊥
-Checks s BelowZero P = ⊥
+abbrev pub Checks : List ℕ → Result Checked Refusal → (ℕ → List ℕ → Type 0) → Type 0
+Checks s (Ok c) P = P c.largest (ranges_of s c).pairs
+Checks s (Err refusal) P = ⊥
 
 abbrev pub HasRoom : List ℕ → ℕ → ℕ → ℕ → List ℕ → Type 0
 HasRoom r ackedRoom lostRoom largest pairs =
     (length (newly_in is_acknowledged r pairs (end_after r largest)) ≤ ackedRoom) × (length (newly_in is_lost r pairs (end_after r largest)) ≤ lostRoom)
 
-pub record HeardRows (r s : List ℕ) (ackedRoom lostRoom : ℕ) (check : Checked) (refusal : ℕ) : Type 0 where
+pub record HeardRows (r s : List ℕ) (ackedRoom lostRoom : ℕ) (check : Result Checked Refusal) (refusal : ℕ) : Type 0 where
   pub one : refusal ≡ 1 ↔ (Consistent r → ⊥)
-  pub two : refusal ≡ 2 ↔ (Consistent r × (checked_refusal check ≡ 2))
-  pub three : refusal ≡ 3 ↔ (Consistent r × (checked_refusal check ≡ 3))
-  pub fourteen : refusal ≡ 14 ↔ (Consistent r × (checked_refusal check ≡ 14))
+  pub two : refusal ≡ 2 ↔ (Consistent r × (refusal_number check ≡ 2))
+  pub three : refusal ≡ 3 ↔ (Consistent r × (refusal_number check ≡ 3))
+  pub fourteen : refusal ≡ 14 ↔ (Consistent r × (refusal_number check ≡ 14))
   pub sixteen : refusal ≡ 16 ↔ (Consistent r × Checks s check (λ largest pairs. next_of r ≤ largest))
   pub nine : refusal ≡ 9 ↔ (Consistent r × Checks s check (λ largest pairs. (largest < next_of r) × (HasRoom r ackedRoom lostRoom largest pairs → ⊥)))
   pub accepted : refusal ≡ 0 ↔ (Consistent r × Checks s check (λ largest pairs. (largest < next_of r) × HasRoom r ackedRoom lostRoom largest pairs))

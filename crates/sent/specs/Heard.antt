@@ -1,13 +1,18 @@
 -- An ACK frame is heard: what it refuses, the state of each number afterwards, and what the answer lists.
-use Rattle.std.specs.Prelude.{ℕ, ◌+◌, ◌-◌, ◌^◌, ◌≤◌, ◌<◌, ◌≡◌, Bool, true, false, not, ◌&&◌, ◌||◌, List, [], ◌∷◌, leb, ltb, length, get_or}
+use Rattle.std.specs.Prelude.{ℕ, ◌+◌, ◌-◌, ◌^◌, ◌≤◌, ◌<◌, ◌≡◌, Bool, true, false, not, ◌&&◌, ◌||◌, List, [], ◌∷◌, Result, Ok, Err, leb, ltb, length, get_or}
 use Rattle.wire.specs.Bytes.{pick, splice}
 use Rattle.window.specs.Window.{is_set}
-use Rattle.frames.specs.Ack.{ranges_from, check_ack}
+use Rattle.wire.specs.Refusals.{number_of}
+use Rattle.wire.specs.declared.Refusal.{Refusal}
+use Rattle.frames.specs.Ack.{Ranges, ranges_from, check_ack}
 use Rattle.frames.specs.declared.Checked.{Checked}
-use Rattle.frames.specs.declared.Checked.TheVariants.{Frame, Ends, OtherType, BelowZero}
 use Rattle.marks.specs.Marks.{mark, between, listed}
 use Rattle.sent.specs.Record.{State, Outstanding, Acknowledged, Lost, is_acknowledged, is_lost, next_of, acked_before, lost_before, end_of, floor_of, acked_at, lost_at, state_at, is_due, record_of, consistent}
 use Rattle.sent.specs.declared.Reply.{Reply}
+
+-- the ranges of a frame that was checked
+abbrev pub ranges_of : List ℕ → Checked → Ranges
+ranges_of s c = ranges_from c.count s c.at c.largest
 
 -- whether a number lies in one of the ranges: smallest and largest of each
 unfoldable pub within : List ℕ → ℕ → Bool
@@ -68,12 +73,10 @@ hear_ranges r pairs end used ackedRoom lostRoom =
     pick (leb (length (newly_in is_acknowledged r pairs end)) ackedRoom && leb (length (newly_in is_lost r pairs end)) lostRoom) (accepted_as r pairs end used) (refused_as 9 r)
 
 -- "Refusals, after those of the ACK reader: 16 for an acknowledged number never sent"
-abbrev pub hear_checked : List ℕ → List ℕ → ℕ → ℕ → Checked → Hearing
-hear_checked r s ackedRoom lostRoom Ends = refused_as 2 r
-hear_checked r s ackedRoom lostRoom OtherType = refused_as 3 r
-hear_checked r s ackedRoom lostRoom BelowZero = refused_as 14 r
-hear_checked r s ackedRoom lostRoom (Frame largest delay at count used tail) =
-    pick (ltb largest (next_of r)) (hear_ranges r (ranges_from count s at largest).pairs (end_after r largest) used ackedRoom lostRoom) (refused_as 16 r)
+abbrev pub hear_checked : List ℕ → List ℕ → ℕ → ℕ → Result Checked Refusal → Hearing
+hear_checked r s ackedRoom lostRoom (Err refusal) = refused_as (number_of refusal) r
+hear_checked r s ackedRoom lostRoom (Ok c) =
+    pick (ltb c.largest (next_of r)) (hear_ranges r (ranges_of s c).pairs (end_after r c.largest) c.used ackedRoom lostRoom) (refused_as 16 r)
 
 -- the record r hears the frame that s starts with, with lists of so much room
 unfoldable pub hear : List ℕ → List ℕ → ℕ → ℕ → Hearing

@@ -14,7 +14,7 @@ pub use hearing::heard;
 // So many numbers are held at most.
 pub const HELD: u64 = 1024;
 
-// The record is so many words: those below, in their order.
+// The record is so many words: those below, in their order. Words and no struct, since a C host lends them and the theorems speak of them.
 pub const WORDS: usize = 36;
 
 // From here on stand the marks of the acknowledged: number n at bit n % 64 of word n / 64 % 16, so that a send moves nothing.

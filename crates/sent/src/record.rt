@@ -11,27 +11,15 @@ use wire::LARGEST;
 pub(crate) fn floor_of(next: u64) -> u64
     ensures { result ≡ next - most_held }
 {
-    if next < HELD {
-        return 0;
-    }
-    next - HELD
+    next.saturating_sub(HELD)
 }
 
 // Whether the numbers of the record agree: next, the end of the largest acknowledged, and the totals of the forgotten.
 fn numbers_agree(next: u64, end: u64, acked: u64, lost: u64) -> bool
     ensures { result ≡ numbers_agree next end acked lost }
 {
-    if LARGEST + 1 < next {
-        return false;
-    }
-    if next < end {
-        return false;
-    }
     let gone = floor_of(next);
-    if gone < acked {
-        return false;
-    }
-    gone - acked == lost
+    next <= LARGEST + 1 && end <= next && acked <= gone && gone - acked == lost
 }
 
 // Whether no bit of a word is wrong: due and outside have those of the numbers that the rule settles, and of those that are not held.
@@ -39,25 +27,17 @@ fn word_agrees(acked: u64, lost: u64, due: u64, outside: u64) -> bool
     ensures { result ≡ none_in (wrong_bit acked lost due outside) 64 0 }
 {
     let either = acked | lost;
-    if acked & lost != 0 {
-        return false;
-    }
-    if due & !either != 0 {
-        return false;
-    }
-    outside & either == 0
+    acked & lost == 0 && due & !either == 0 && outside & either == 0
 }
 
 // Whether no bit of the sixteen words is wrong.
 fn words_agree(losses: &[u64; WORDS], due: &[u64; 16], outside: &[u64; 16]) -> bool
     ensures { result ≡ none_in (word_wrong losses.now due.now outside.now) 16 0 }
 {
-    let mut i: usize = 0;
-    while i < 16 {
+    for i in 0..16 {
         if !word_agrees(losses[i], losses[AT_LOST + i], due[i], outside[i]) {
             return false;
         }
-        i += 1;
     }
     true
 }
@@ -66,11 +46,8 @@ fn words_agree(losses: &[u64; WORDS], due: &[u64; 16], outside: &[u64; 16]) -> b
 pub(crate) fn due_marks(floor: u64, end: u64) -> [u64; 16]
     ensures { DueMarks result floor end }
 {
-    if end <= 3 {
-        return [0u64; 16];
-    }
     let mut due = [0u64; 16];
-    add_range(&mut due, floor, end - 3);
+    add_range(&mut due, floor, end.saturating_sub(3));
     due
 }
 
@@ -91,13 +68,7 @@ fn marks_agree(losses: &[u64; WORDS]) -> bool
 pub(crate) fn consistent(losses: &[u64; WORDS]) -> bool
     ensures { result ≡ consistent losses.now }
 {
-    if !numbers_agree(
-        losses[AT_NEXT],
-        losses[AT_END],
-        losses[AT_ACKED_BEFORE],
-        losses[AT_LOST_BEFORE],
-    ) {
-        return false;
-    }
-    marks_agree(losses)
+    let next = losses[AT_NEXT];
+    let end = losses[AT_END];
+    numbers_agree(next, end, losses[AT_ACKED_BEFORE], losses[AT_LOST_BEFORE]) && marks_agree(losses)
 }

@@ -10,6 +10,8 @@ use lib.Dec.{eqb, leb}
 use lib.ListN.{length, take, drop, length-drop}
 use lib.Seq.{take_all, drop-length}
 use Rattle.wire.specs.Bytes.{pick}
+use Rattle.wire.specs.declared.Refusal.{Refusal}
+use Rattle.wire.specs.declared.Refusal.TheVariants.{Ends, BrokenEntry, BytesRemain}
 use Rattle.entries.specs.Entries.{entries_good}
 use Rattle.entries.specs.declared.Profile.TheVariants.{One}
 use Rattle.report.specs.declared.Header.{Header}
@@ -24,9 +26,9 @@ module _ (s : List ℕ) where
   abbrev Tail : Reading → Type 0
   Tail x = (16 * (report_of x).header.entries ≤ length s) × (drop (length s - 16 * (report_of x).header.entries) s ≡ entries_in One s x)
 
-  stopped-tail : (n : ℕ) → Tail (Stopped n)
+  stopped-tail : (refusal : Refusal) → Tail (Stopped refusal)
   unfolding report_of entries_in empty_header
-  stopped-tail n = (omega arith, let e : length s - 16 * 0 ≡ length s = omega arith in rw e (drop-length s))
+  stopped-tail refusal = (omega arith, let e : length s - 16 * 0 ≡ length s = omega arith in rw e (drop-length s))
 
   whole-tail : (ns : List ℕ) (at : ℕ) → at + 16 * count_of ns ≡ length s → Tail (Whole ns at)
   unfolding report_of entries_in header_of
@@ -37,20 +39,20 @@ module _ (s : List ℕ) where
 
   judged-tail : (x : Reading) → Tail (judge_entries One s x)
   unfolding judge_entries
-  judged-tail (Stopped n) = stopped-tail n
+  judged-tail (Stopped refusal) = stopped-tail refusal
   judged-tail (Whole ns at) = by-room (leb (at + 16 * count_of ns) (length s))
     where
-      by_end : (b : Bool) → eqb (at + 16 * count_of ns) (length s) ≡ b → Tail (pick b (Whole ns at) (Stopped 13))
+      by_end : (b : Bool) → eqb (at + 16 * count_of ns) (length s) ≡ b → Tail (pick b (Whole ns at) (Stopped BytesRemain))
       by_end true e = whole-tail ns at (eqb-true (at + 16 * count_of ns) (length s) e)
-      by_end false e = stopped-tail 13
+      by_end false e = stopped-tail BytesRemain
 
-      by-good : (b : Bool) → Tail (pick b (pick (eqb (at + 16 * count_of ns) (length s)) (Whole ns at) (Stopped 13)) (Stopped 12))
+      by-good : (b : Bool) → Tail (pick b (pick (eqb (at + 16 * count_of ns) (length s)) (Whole ns at) (Stopped BytesRemain)) (Stopped BrokenEntry))
       by-good true = by_end (eqb (at + 16 * count_of ns) (length s)) refl
-      by-good false = stopped-tail 12
+      by-good false = stopped-tail BrokenEntry
 
-      by-room : (b : Bool) → Tail (pick b (pick (entries_good One (part_of One s ns at)) (pick (eqb (at + 16 * count_of ns) (length s)) (Whole ns at) (Stopped 13)) (Stopped 12)) (Stopped 2))
+      by-room : (b : Bool) → Tail (pick b (pick (entries_good One (part_of One s ns at)) (pick (eqb (at + 16 * count_of ns) (length s)) (Whole ns at) (Stopped BytesRemain)) (Stopped BrokenEntry)) (Stopped Ends))
       by-room true = by-good (entries_good One (part_of One s ns at))
-      by-room false = stopped-tail 2
+      by-room false = stopped-tail Ends
 
   entries-tail : Tail (report_reading One s)
   unfolding report_reading

@@ -3,7 +3,6 @@ pub mod Counting
 pub mod Bringing
 pub mod Growing
 pub mod Stepping
-pub mod Pasting
 pub mod Summing
 pub mod Numbers
 pub mod Only

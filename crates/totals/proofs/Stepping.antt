@@ -9,9 +9,10 @@ use native.Mathlib.Omega.{arith}
 use borrow.Author.Tests.{le-leb, lt-leb, lt-ltb, le-ltb, eq-eqb, ne_eqb}
 use lib.ListN.{length, take, drop, length-drop}
 use lib.Seq.{drop-drop, take_all}
+use Rattle.std.specs.Prelude.{Result, Ok, Err}
 use Rattle.wire.specs.Fields.{read_fixed}
 use Rattle.wire.specs.declared.Fixed.{Fixed}
-use Rattle.wire.specs.declared.Fixed.TheVariants.{Value, Ends}
+use Rattle.wire.specs.declared.Refusal.{Refusal}
 use Rattle.totals.specs.declared.Totals.{Totals}
 use Rattle.totals.specs.declared.Standing.{Standing}
 use Rattle.totals.specs.declared.Taken.{Taken}
@@ -84,15 +85,18 @@ module _ (st : Standing) (s : List ℕ) where
 
 -- ---- as the code tests: n is what the reader of the length answered
 
-module _ (st : Standing) (s : List ℕ) (z : st.skip ≤ 0) {n : Fixed} (e : n ≡ read_fixed length_size s 0) where
-  pub told-ends : n ≡ Ends → nothing st ≡ step_of st s
+module _ (st : Standing) (s : List ℕ) (z : st.skip ≤ 0) {n : Result Fixed Refusal} (e : n ≡ read_fixed length_size s 0) where
+  pub told-ends : {refusal : Refusal} → n ≡ Err refusal → nothing st ≡ step_of st s
   unfolding step_of
-  told-ends t = rw (le-ltb 0 st.skip z) (ap (λ (m : Fixed). behind_length m st s) (sym t ∙ e))
+  told-ends t = rw (le-ltb 0 st.skip z) (ap (λ (m : Result Fixed Refusal). behind_length m st s) (sym t ∙ e))
 
-  module _ {v after : ℕ} (t : n ≡ Value v after) where
+  module _ {x : Fixed} (t : n ≡ Ok x) where
+    abbrev v : ℕ
+    v = x.value
+
     told : {k : Taken} → k ≡ one_report st s v → k ≡ step_of st s
     unfolding step_of
-    told g = rw (le-ltb 0 st.skip z) (g ∙ ap (λ (m : Fixed). behind_length m st s) (sym t ∙ e))
+    told g = rw (le-ltb 0 st.skip z) (g ∙ ap (λ (m : Result Fixed Refusal). behind_length m st s) (sym t ∙ e))
 
     pub told-long : {more : Totals} → longest < v → more ≡ with_long st.totals
         → record { next = record { totals = more; skip = v }; used = length_size } ≡ step_of st s

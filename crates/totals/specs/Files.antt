@@ -1,9 +1,9 @@
 -- A file of reports: "each after a four-byte length with the high byte first", whole, and piece by piece.
-use Rattle.std.specs.Prelude.{ℕ, zero, suc, ◌+◌, ◌-◌, min, List, [], ◌∷◌, eqb, leb, ltb, length, take, drop, replicate}
+use Rattle.std.specs.Prelude.{ℕ, zero, suc, ◌+◌, ◌-◌, min, List, [], ◌∷◌, Result, Ok, Err, eqb, leb, ltb, length, take, drop, replicate}
 use Rattle.wire.specs.Bytes.{pick, be, splice}
 use Rattle.wire.specs.Fields.{read_fixed}
 use Rattle.wire.specs.declared.Fixed.{Fixed}
-use Rattle.wire.specs.declared.Fixed.TheVariants.{Value, Ends}
+use Rattle.wire.specs.declared.Refusal.{Refusal}
 use Rattle.totals.specs.declared.Totals.{Totals}
 use Rattle.totals.specs.declared.Standing.{Standing}
 use Rattle.totals.specs.declared.Taken.{Taken}
@@ -73,9 +73,9 @@ one_report st s n =
     (record { next = record { totals = with_long st.totals; skip = n }; used = length_size })
 
 -- the length is whole, or nothing is taken
-abbrev pub behind_length : Fixed → Standing → List ℕ → Taken
-behind_length (Value n next) st s = one_report st s n
-behind_length Ends st s = nothing st
+abbrev pub behind_length : Result Fixed Refusal → Standing → List ℕ → Taken
+behind_length (Ok field) st s = one_report st s field.value
+behind_length (Err refusal) st s = nothing st
 
 -- one step: bytes to be skipped, or a report behind its length
 unfoldable pub step_of : Standing → List ℕ → Taken

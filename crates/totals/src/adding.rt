@@ -22,6 +22,7 @@ fn one_if(status: u8, wanted: u8) -> u32
 }
 
 // How many of the records have each status, in one walk. With counts of 32 bits a processor takes four records at a time.
+// It goes by index: over exact chunks the four counts would need the place of each record in their proof too, which is no plainer.
 fn count_statuses(records: &[u8]) -> [u64; 4]
     requires { length records.now ≤ longest }
     ensures { result ≡ status_counts records.now }
@@ -31,14 +32,12 @@ fn count_statuses(records: &[u8]) -> [u64; 4]
     let mut late: u32 = 0;
     let mut lost: u32 = 0;
     let mut partial: u32 = 0;
-    let mut i: usize = 0;
-    while i < n {
+    for i in 0..n {
         let status = records[i * RECORD + AT_STATUS];
         received += one_if(status, 0);
         late += one_if(status, 1);
         lost += one_if(status, 2);
         partial += one_if(status, 3);
-        i += 1;
     }
     [received as u64, late as u64, lost as u64, partial as u64]
 }
@@ -85,6 +84,7 @@ impl Brought {
         }
     }
 
+    // The sums and their marks are lent as a pair of arrays, the project's form for a record that is written in place.
     // Adds it to the lent sums: one in the place of its number, then the totals and the statuses.
     pub(crate) fn add_in(self, sums: &mut [u64; PLACES], full: &mut [u64; PLACES])
         requires { (self.number ≤ too_long) × Held (over sums.old full.old) }
@@ -103,38 +103,38 @@ impl Brought {
     }
 }
 
-// How much the sum can grow by.
-fn room(sum: u64) -> u64
-    ensures { sum + result ≡ most }
-{
-    u64::MAX - sum
-}
-
 // So much more in one place of the lent sums; a sum that would pass 2^64 - 1 stays there and is full.
 fn add_at(sums: &mut [u64; PLACES], full: &mut [u64; PLACES], place: usize, more: u64)
     requires { place < places }
     ensures { (sums.new ≡ set sums.old place (kept (get_or sums.old place 0 + more)))
         × (full.new ≡ set full.old place (pick (leb (get_or sums.old place 0 + more) most) (get_or full.old place 0) 1)) }
 {
-    let sum = sums[place];
-    if room(sum) < more {
-        sums[place] = u64::MAX;
-        full[place] = 1;
-    } else {
-        sums[place] = sum + more;
+    match sums[place].checked_add(more) {
+        Some(sum) => sums[place] = sum,
+        None => {
+            sums[place] = u64::MAX;
+            full[place] = 1;
+        }
     }
 }
 
 impl Totals {
+    // The totals with what one report brings.
+    fn with(self, brought: Brought) -> Totals
+        requires { brought.number ≤ too_long }
+        ensures { result ≡ with self brought }
+    {
+        let mut sums = self.sums;
+        let mut full = self.full;
+        brought.add_in(&mut sums, &mut full);
+        Totals { sums, full }
+    }
+
     // The totals with one report more.
     pub fn add(self, report: &[u8]) -> Totals
         ensures { result ≡ added self report.now }
     {
-        let mut sums = self.sums;
-        let mut full = self.full;
-        let brought = Brought::by(report);
-        brought.add_in(&mut sums, &mut full);
-        Totals { sums, full }
+        self.with(Brought::by(report))
     }
 }
 
@@ -143,14 +143,9 @@ impl Standing {
     pub fn add(self, report: &[u8]) -> Added
         ensures { result ≡ reported self report.now }
     {
-        let before = self.totals;
-        let mut sums = before.sums;
-        let mut full = before.full;
         let brought = Brought::by(report);
-        brought.add_in(&mut sums, &mut full);
-        let totals = Totals { sums, full };
         let next = Standing {
-            totals,
+            totals: self.totals.with(brought),
             skip: self.skip,
         };
         Added {

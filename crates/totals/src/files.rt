@@ -4,7 +4,6 @@ ghost use Rattle.totals.specs.Adding.{over, Held};
 ghost use Rattle.totals.specs.Files.{start, step_of, stepped, taken, moved};
 
 use crate::{Brought, LONGEST, PLACES, Standing, Step, TOO_LONG, Taken, Totals};
-use wire::Fixed;
 
 // A report comes after so many bytes of length.
 const LENGTH: usize = 4;
@@ -32,6 +31,7 @@ impl Standing {
         let mut full = totals.full;
         let mut skip = self.skip;
         let mut at: usize = 0;
+        // Each step takes another number of bytes, so that no range or iterator says where it stands.
         while at < s.len() {
             let step = step_in(&mut sums, &mut full, skip, &s[at..]);
             skip = step.skip;
@@ -56,16 +56,16 @@ fn step_in(sums: &mut [u64; PLACES], full: &mut [u64; PLACES], skip: usize, s: &
     ensures { stepped (over sums.new full.new) result ≡ step_of (record { totals = over sums.old full.old; skip = skip }) s.now }
 {
     if 0 < skip {
-        let used = if s.len() < skip { s.len() } else { skip };
+        let used = skip.min(s.len());
         return Step {
             skip: skip - used,
             used,
         };
     }
-    let Fixed::Value { value, next: _ } = wire::read_fixed4(s, 0) else {
+    let Ok(field) = wire::read_fixed4(s, 0) else {
         return Step { skip, used: 0 };
     };
-    let length = value as usize;
+    let length = field.value as usize;
     if LONGEST < length {
         let brought = Brought::refused(TOO_LONG);
         brought.add_in(sums, full);
@@ -87,16 +87,7 @@ fn step_in(sums: &mut [u64; PLACES], full: &mut [u64; PLACES], skip: usize, s: &
 pub fn keep_rest(buf: &mut [u8], used: usize, end: usize)
     ensures { buf.new ≡ moved buf.old used end }
 {
-    if buf.len() < end {
-        return;
-    }
-    if end < used {
-        return;
-    }
-    let n = end - used;
-    let mut i: usize = 0;
-    while i < n {
-        buf[i] = buf[used + i];
-        i += 1;
+    if used <= end && end <= buf.len() {
+        buf.copy_within(used..end, 0);
     }
 }

@@ -68,6 +68,7 @@ pub struct Added {
 }
 
 // What one report brings: its number, 0 for accepted, and only then its totals and how many of its entries have each status.
+// The number stays one, as report::Report, a C struct, has it: it is the place of the sum too.
 #[derive(Clone, Copy)]
 struct Brought {
     number: u64,

@@ -6,12 +6,11 @@
 
 use std::io;
 use totals::{Standing, Totals};
-use wire::Put;
 
 // Prints the page of the totals, where so many bytes of the file are left.
 fn show(rt: &impl Print, totals: Totals, left: usize, output: &mut [u8]) -> io::Result<()> {
     let standing = Standing { totals, skip: 0 };
-    let Put::Done { next } = page::put_page(output, standing, left) else {
+    let Ok(next) = page::put_page(output, standing, left) else {
         return Ok(());
     };
     rt.write_all(&output[..next])?;

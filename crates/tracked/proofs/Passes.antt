@@ -9,10 +9,13 @@ use native.Mathlib.Omega.{arith}
 use borrow.Author.Tests.{le-leb, lt-ltb, le-ltb, eq-eqb, eqb-false}
 use lib.Dec.{leb, ltb, eqb}
 use lib.ListN.{length, take}
+use Rattle.std.specs.Prelude.{Result, Ok, Err}
 use Rattle.wire.specs.Bytes.{pick, be}
 use Rattle.wire.specs.Fields.{fixed}
 use Rattle.wire.specs.Numbers.{limit, encode_all, all_small}
 use Rattle.wire.specs.Exactly.{Small}
+use Rattle.wire.specs.Refusals.{refusal_number}
+use Rattle.wire.specs.declared.Refusal.{Refusal}
 use Rattle.wire.proofs.Bytes.{be-digits}
 use Rattle.wire.proofs.Lengths.{split}
 use Rattle.entries.specs.Limits.{most_entries}
@@ -24,11 +27,10 @@ use Rattle.entries.specs.declared.Profile.TheVariants.{One}
 use Rattle.report.specs.Average.{stored_of}
 use Rattle.report.specs.Header.{numbers_of, pairs, first_fault}
 use Rattle.report.specs.Writer.{report_size, kept_of, planned, write_answer}
-use Rattle.report.specs.Refusals.{written_refusal}
 use Rattle.report.specs.Exactly.{SumHolds, MetricsObey}
 use Rattle.report.specs.declared.Written.{Written}
-use Rattle.report.specs.declared.Written.TheVariants.{Done, Refused}
 use Rattle.report.proofs.Refusing.{report-writes}
+use Rattle.report.proofs.Heeding.{number-some}
 use Rattle.report.proofs.Back.{write_read}
 use Rattle.tracker.specs.Known.{most_objects, Known}
 use Rattle.tracker.specs.Record.{first_of, known}
@@ -150,30 +152,11 @@ entries-rise r time interval room e i h =
     let l = entries-length (status_at (known r) time) (known r) time most_objects 0 in
     (entries-judged One (entries_at (known r) time)).0 (writer-takes r time interval room 0 e (omega arith)).records.good i (omega (arith, l))
 
--- the writer refuses with a number, never with 0
-refuses-some : (ns entries : List ℕ) (maximum room n : ℕ) → Refused n ≡ planned One ns entries maximum room → n ≡ 0 → ⊥
-unfolding planned
-refuses-some ns entries maximum room n e z =
-    go (all_small ns) (eqb (first_fault One ns) 0) (leb maximum most_entries) (eqb (entries_fault One entries) 0) (leb (report_size One (length (encode_all ns)) 0) room) refl refl e
-  where
-    k : ℕ
-    k = kept_of One ns entries maximum room
-
-    go : (a b m c d : Bool) → eqb (first_fault One ns) 0 ≡ b → eqb (entries_fault One entries) 0 ≡ c
-        → Refused n ≡ pick a (pick b (pick m (pick c (pick d (Done (report_size One (length (encode_all ns)) k) k) (Refused 9)) (Refused (entries_fault One entries))) (Refused 10)) (Refused (first_fault One ns))) (Refused 5)
-        → ⊥
-    go true true true true true p q f = let y : ◌≡◌ {A = ℕ} 0 1 = cc in omega arith
-    go true true true true false p q f = let y : n ≡ 9 = cc in omega arith
-    go true true true false d p q f = let y : n ≡ entries_fault One entries = cc in eqb-false (entries_fault One entries) 0 q (sym y ∙ z)
-    go true true false c d p q f = let y : n ≡ 10 = cc in omega arith
-    go true false m c d p q f = let y : n ≡ first_fault One ns = cc in eqb-false (first_fault One ns) 0 p (sym y ∙ z)
-    go false b m c d p q f = let y : n ≡ 5 = cc in omega arith
-
 pub through-and-back : ThroughAndBack
 through-and-back r time interval room maximum xs e m l =
     go (write_answer One (summary_of (known r) time interval) (entries_at (known r) time) maximum (length xs)) refl ((report-writes One (summary_of (known r) time interval) (entries_at (known r) time) maximum (length xs)).accepted.1 (writer-takes r time interval room maximum e m, l))
   where
-    go : (w : Written) → w ≡ write_answer One (summary_of (known r) time interval) (entries_at (known r) time) maximum (length xs) → written_refusal (write_answer One (summary_of (known r) time interval) (entries_at (known r) time) maximum (length xs)) ≡ 0
+    go : (w : Result Written Refusal) → w ≡ write_answer One (summary_of (known r) time interval) (entries_at (known r) time) maximum (length xs) → refusal_number (write_answer One (summary_of (known r) time interval) (entries_at (known r) time) maximum (length xs)) ≡ 0
         → GoesThrough r time interval maximum xs
-    go (Done next kept) q z = record { next = next; kept = kept; written = q; back = write_read One (summary_of (known r) time interval) (entries_at (known r) time) maximum xs next kept q }
-    go (Refused n) q z = absurd (refuses-some (numbers_of One (summary_of (known r) time interval)) (entries_at (known r) time) maximum (length xs) n q (ap written_refusal q ∙ z))
+    go (Ok w) q z = record { next = w.next; kept = w.kept; written = q; back = write_read One (summary_of (known r) time interval) (entries_at (known r) time) maximum xs w.next w.kept q }
+    go (Err refusal) q z = absurd (number-some refusal (ap refusal_number q ∙ z))

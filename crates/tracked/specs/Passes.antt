@@ -6,10 +6,9 @@ use Rattle.entries.specs.Profiles.{record_size}
 use Rattle.entries.specs.Exactly.{Obeys}
 use Rattle.entries.specs.declared.Profile.TheVariants.{One}
 use Rattle.report.specs.Header.{numbers_of}
-use Rattle.report.specs.Writer.{report_size, write_answer, write_bytes}
+use Rattle.report.specs.Writer.{done, report_size, write_answer, write_bytes}
 use Rattle.report.specs.Exactly.{Passes}
 use Rattle.report.specs.EachWay.{ReadsBack}
-use Rattle.report.specs.declared.Written.TheVariants.{Done}
 use Rattle.tracker.specs.Known.{Known}
 use Rattle.tracker.specs.Record.{known}
 use Rattle.tracker.specs.Report.{total_of, summary_of, entries_at, report_refusal}
@@ -30,7 +29,7 @@ EntriesRise = (r : List ℕ) (time interval room : ℕ) → report_refusal r tim
 pub record GoesThrough (r : List ℕ) (time interval maximum : ℕ) (xs : List ℕ) : Type 0 where
   pub next : ℕ
   pub kept : ℕ
-  pub written : Done next kept ≡ write_answer One (summary_of (known r) time interval) (entries_at (known r) time) maximum (length xs)
+  pub written : done next kept ≡ write_answer One (summary_of (known r) time interval) (entries_at (known r) time) maximum (length xs)
   pub back : ReadsBack One (summary_of (known r) time interval) (entries_at (known r) time) (write_bytes One (summary_of (known r) time interval) (entries_at (known r) time) maximum xs) next kept
 
 abbrev pub ThroughAndBack : Type 0

@@ -10,7 +10,7 @@ use lib.IntN.{pos, negsuc, neg_ℤ, sub_ℕ, ◌+ℤ◌}
 use lib.ListN.{length}
 use Rattle.wire.proofs.Lengths.{split}
 use Rattle.tracker.specs.Average.{deviation, toward_zero}
-use Rattle.tracker.specs.Counting.{rounded_up, mean_by, signed_of}
+use Rattle.tracker.specs.Counting.{rounded_up, mean_by}
 use Rattle.tracker.proofs.Averages.{sum}
 
 -- ---- differences of naturals
@@ -52,7 +52,7 @@ deviation-sum interval (gap ∷ gaps) =
 quotient : (n k g rest : ℕ) → n ≡ k * g + rest → rest < g → n / g ≡ k
 quotient n k g rest e h = rw (e, mul-add-div_right {m = g} (omega arith) k rest, div-eq_of_lt h) (add-zero k)
 
-pub mean-is : (spread g interval : ℕ) → 0 < g → toward_zero (sub_ℕ spread (interval * g)) g ≡ signed_of (mean_by spread g interval)
+pub mean-is : (spread g interval : ℕ) → 0 < g → toward_zero (sub_ℕ spread (interval * g)) g ≡ (mean_by spread g interval)
 unfolding mean_by
 mean-is spread g interval h =
     let q : ℕ = spread / g in

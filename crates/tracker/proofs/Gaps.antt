@@ -14,7 +14,7 @@ use Rattle.tracker.specs.Known.{most_objects, Fate, unknown, ended, came, has_co
 use Rattle.tracker.specs.Record.{word_at, time_of, has_arrived, known}
 use Rattle.tracker.specs.Status.{status_from, how_many}
 use Rattle.tracker.specs.Average.{with_time, arrival_times, in_order, gaps_of, toward_zero, mean_of, average_from}
-use Rattle.tracker.specs.Counting.{no_arrival, reached, spread_from, mean_by, signed_of}
+use Rattle.tracker.specs.Counting.{no_arrival, reached, spread_from, mean_by}
 use Rattle.tracker.specs.declared.Spread.{Spread}
 use Rattle.tracker.proofs.Arrivals.{arrives}
 use Rattle.tracker.proofs.Fates.{time-of, no-time-of, came-counts}
@@ -79,14 +79,14 @@ times-many became lost (suc n) place =
 
 -- ---- the average
 
-mean-of : (interval first : ℕ) (others : List ℕ) → Rising first others → signed_of (mean_by (sum (gaps_of (first ∷ others))) (length others) interval) ≡ mean_of interval (gaps_of (first ∷ others))
+mean-of : (interval first : ℕ) (others : List ℕ) → Rising first others → (mean_by (sum (gaps_of (first ∷ others))) (length others) interval) ≡ mean_of interval (gaps_of (first ∷ others))
 unfolding gaps_of mean_of mean_by
 mean-of interval first [] h = refl
 mean-of interval first (y ∷ ys) h =
     let k : length (gaps_of (first ∷ y ∷ ys)) ≡ length (y ∷ ys) = gaps-many first (y ∷ ys) in
     rw (← k) (sym (ap (λ (d : ℤ). toward_zero d (length (gaps_of (first ∷ y ∷ ys)))) (deviation-sum interval (gaps_of (first ∷ y ∷ ys))) ∙ mean-is (sum (gaps_of (first ∷ y ∷ ys))) (length (gaps_of (first ∷ y ∷ ys))) interval (omega arith)))
 
-pub average-of : (interval : ℕ) (ts : List ℕ) → highest ts ≤ limit → signed_of (mean_by (highest ts - lowest limit ts) (length ts - 1) interval) ≡ average_from interval ts
+pub average-of : (interval : ℕ) (ts : List ℕ) → highest ts ≤ limit → (mean_by (highest ts - lowest limit ts) (length ts - 1) interval) ≡ average_from interval ts
 unfolding in_order gaps_of mean_of mean_by
 average-of interval [] h = refl
 average-of interval (t ∷ ts) h =
@@ -95,14 +95,14 @@ average-of interval (t ∷ ts) h =
     let l = first-least s.first s.others s.rising in
     let d : highest (t ∷ ts) - lowest limit (t ∷ ts) ≡ sum (gaps_of (s.first ∷ s.others)) = omega (arith, g, l, s.last, s.least limit) in
     let n : length (t ∷ ts) - 1 ≡ length s.others = omega (arith, s.many) in
-    ap (λ (x : ℕ). signed_of (mean_by x (length (t ∷ ts) - 1) interval)) d
-    ∙ ap (λ (x : ℕ). signed_of (mean_by (sum (gaps_of (s.first ∷ s.others))) x interval)) n
+    ap (λ (x : ℕ). (mean_by x (length (t ∷ ts) - 1) interval)) d
+    ∙ ap (λ (x : ℕ). (mean_by (sum (gaps_of (s.first ∷ s.others))) x interval)) n
     ∙ mean-of interval s.first s.others s.rising
     ∙ ap (λ (x : List ℕ). mean_of interval (gaps_of x)) (sym s.is)
 
 -- the spread of all objects and the number that arrived
 pub average-agrees : (r : List ℕ) (interval : ℕ)
-    → signed_of (mean_by ((spread_from r most_objects 0 no_arrival).latest - (spread_from r most_objects 0 no_arrival).earliest) (length (arrival_times (known r).became most_objects 0) - 1) interval)
+    → (mean_by ((spread_from r most_objects 0 no_arrival).latest - (spread_from r most_objects 0 no_arrival).earliest) (length (arrival_times (known r).became most_objects 0) - 1) interval)
     ≡ average_from interval (arrival_times (known r).became most_objects 0)
 average-agrees r interval =
     let ts : List ℕ = arrival_times (known r).became most_objects 0 in

@@ -8,16 +8,28 @@ use native.Mathlib.Omega.{arith}
 use borrow.Author.Tests.{leb-true, ltb-true, eq-eqb, ne_eqb}
 use lib.Dec.{leb, ltb}
 use lib.ListN.{set}
+use Rattle.std.specs.Prelude.{Result, Ok, Err}
 use Rattle.wire.specs.Numbers.{limit}
+use Rattle.wire.specs.Refusals.{refusal_number}
+use Rattle.wire.specs.declared.Refusal.{Refusal}
+use Rattle.report.proofs.Heeding.{number-some, refused-as, not-refused}
 use Rattle.tracker.proofs.Tests.{either, and_left, and_right}
 use Rattle.tracker.specs.Known.{most_objects}
 use Rattle.tracker.specs.Record.{first_of, named_of, word_at, state_of, nothing, has_arrived, both_obey, consistent}
 use Rattle.tracker.specs.Calls.{unless_refused, inside, object_refusal, arrival_obeys, arrived_refusal, with_named, with_arrival, ended_refusal, with_end}
 
+-- answers with the same number are the same
+pub same-answer : (x y : Result Unit Refusal) → refusal_number x ≡ refusal_number y → x ≡ y
+same-answer x (Ok u) e = not-refused x e
+same-answer x (Err refusal) e = refused-as x refusal e
+
 -- a refused call leaves the record as it was
 pub refused-stays : (n : ℕ) (old new : List ℕ) → (n ≡ 0 → ⊥) → old ≡ unless_refused n old new
 refused-stays zero old new f = absurd (f refl)
 refused-stays (suc n) old new f = refl
+
+pub call-refused : {A : Type 0} {x : Result A Refusal} {refusal : Refusal} (n : ℕ) (old new : List ℕ) → x ≡ Err refusal → refusal_number x ≡ n → old ≡ unless_refused n old new
+call-refused {refusal = refusal} n old new t e = refused-stays n old new (λ z. number-some refusal (ap refusal_number (sym t) ∙ e ∙ z))
 
 -- an accepted one leaves the next
 pub accepted-next : {xs : List ℕ} (n : ℕ) (old new : List ℕ) → n ≡ 0 → xs ≡ new → xs ≡ unless_refused n old new

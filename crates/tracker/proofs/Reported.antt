@@ -1,19 +1,17 @@
 -- What the report call has worked out is the summary and the entries of the paper, and its tests are the refusals in their order.
 -- Assumes nothing.
-use Prim.Native.Nat.{ℕ, zero, suc, ◌+◌, ◌-◌, ◌*◌, ◌≤◌, ◌<◌}
+use Prim.Native.Nat.{ℕ, suc, ◌+◌, ◌-◌, ◌*◌, ◌≤◌, ◌<◌}
 use mathlib.Core.Path.{◌≡◌, refl, sym, ap, ◌∙◌}
-use mathlib.Core.Bool.{Bool, true, false}
+use mathlib.Core.Bool.{true, false}
 use mathlib.Core.List.{List}
 use native.Mathlib.Omega.{arith}
-use borrow.Author.Tests.{le-leb, lt-leb, leb-true}
-use lib.Dec.{eqb, leb, ltb}
-use lib.IntN.{ℤ, pos, neg_ℤ}
+use borrow.Author.Tests.{le-leb, lt-leb}
+use lib.Dec.{eqb, ltb}
+use lib.IntN.{ℤ}
 use lib.ListN.{length}
-use Rattle.wire.specs.Bytes.{pick, splice}
-use Rattle.wire.specs.Numbers.{limit}
+use Rattle.wire.specs.Bytes.{splice}
 use Rattle.entries.specs.Profiles.{record_size}
 use Rattle.entries.specs.declared.Profile.TheVariants.{One}
-use Rattle.report.specs.Average.{stored_of}
 use Rattle.report.specs.Header.{empty_header}
 use Rattle.report.specs.declared.Header.{Header}
 use Rattle.report.specs.declared.Report.{Report}
@@ -21,22 +19,21 @@ use Rattle.tracker.specs.Known.{most_objects}
 use Rattle.tracker.specs.Record.{interval_of, both_obey, consistent, known}
 use Rattle.tracker.specs.Status.{status_at, entries_from, how_many}
 use Rattle.tracker.specs.Average.{arrival_times}
-use Rattle.tracker.specs.Counting.{no_arrival, spread_from, loss_end, statuses_by, no_counts, counts_from, mean_by, signed_of}
+use Rattle.tracker.specs.Counting.{no_arrival, spread_from, loss_end, statuses_by, no_counts, counts_from, mean_by}
 use Rattle.tracker.specs.Report.{with_status, total_of, average_at, header_of, summary_of, entries_at, average_fits, made_refusal, report_refusal, report_answer, report_bytes}
 use Rattle.tracker.specs.declared.Spread.{Spread}
 use Rattle.tracker.specs.declared.Counts.{Counts}
-use Rattle.tracker.specs.declared.Mean.{Mean}
 use Rattle.tracker.proofs.Counted.{status-agrees, many-same, many-within, entries-same, received-counted, late-counted, missing-counted, partial-counted, total-parts, entries-length}
 use Rattle.tracker.proofs.Gaps.{times-many, average-agrees}
 
 -- ---- what was worked out
 
-pub record Made (r : List ℕ) (time end : ℕ) (c : Counts) (mean : Mean) : Type 0 where
+pub record Made (r : List ℕ) (time end : ℕ) (c : Counts) (mean : ℤ) : Type 0 where
   pub received : c.received ≡ with_status (known r) time 0
   pub late : c.late ≡ with_status (known r) time 1
   pub missing : c.missing ≡ with_status (known r) time 2
   pub partial : c.partial ≡ with_status (known r) time 3
-  pub average : signed_of mean ≡ average_at (known r)
+  pub average : mean ≡ average_at (known r)
   pub entries : entries_from (statuses_by end r) (known r) time most_objects 0 ≡ entries_at (known r) time
 
 module _ (r : List ℕ) (time : ℕ) (sound : consistent r ≡ true) where
@@ -66,19 +63,19 @@ module _ (r : List ℕ) (time : ℕ) (sound : consistent r ≡ true) where
         late = late-counted last r most_objects 0 no_counts ∙ omega (arith, counted 1);
         missing = missing-counted last r most_objects 0 no_counts ∙ omega (arith, counted 2);
         partial = partial-counted last r most_objects 0 no_counts ∙ omega (arith, counted 3);
-        average = ap (λ (n : ℕ). signed_of (mean_by (whole.latest - whole.earliest) (n - 1) (interval_of r))) (sym arrivals) ∙ average-agrees r (interval_of r);
+        average = ap (λ (n : ℕ). (mean_by (whole.latest - whole.earliest) (n - 1) (interval_of r))) (sym arrivals) ∙ average-agrees r (interval_of r);
         entries = entries-same (statuses_by last r) (status_at (known r) time) (known r) time most_objects 0 agrees;
       }
 
-  pub made : {s : Spread} {end : ℕ} {c : Counts} {gaps spread : ℕ} {mean : Mean} → s ≡ spread_from r most_objects 0 no_arrival → end ≡ loss_end r time s.top → c ≡ counts_from end r most_objects 0 no_counts
+  pub made : {s : Spread} {end : ℕ} {c : Counts} {gaps spread : ℕ} {mean : ℤ} → s ≡ spread_from r most_objects 0 no_arrival → end ≡ loss_end r time s.top → c ≡ counts_from end r most_objects 0 no_counts
       → gaps ≡ c.received + c.late - 1 → spread ≡ s.latest - s.earliest → mean ≡ mean_by spread gaps (interval_of r) → Made r time end c mean
   made e f g h i j = rw (j, i, h, g, f, e) here
 
-module _ {r : List ℕ} {time end : ℕ} {c : Counts} {mean : Mean} (m : Made r time end c mean) where
+module _ {r : List ℕ} {time end : ℕ} {c : Counts} {mean : ℤ} (m : Made r time end c mean) where
   pub total-is : c.received + c.late + (c.missing + c.partial) ≡ total_of (known r) time
   total-is = omega (arith, m.received, m.late, m.missing, m.partial, total-parts (status_at (known r) time) most_objects 0)
 
-  pub header_is : (interval : ℕ) {h : Header} {average : ℤ} → average ≡ signed_of mean
+  pub header_is : (interval : ℕ) {h : Header} {average : ℤ} → average ≡ mean
       → h ≡ header_of time interval (c.received + c.late + (c.missing + c.partial)) c.received c.late (c.missing + c.partial) average → h ≡ summary_of (known r) time interval
   unfolding summary_of
   header_is interval e f = f ∙ rw (e, m.average, total-is, m.received, m.late, m.missing, m.partial)
@@ -102,15 +99,6 @@ few end r e =
       missing = omega (arith, missing-counted end r most_objects 0 no_counts, many-within (λ p. eqb (statuses_by end r p) 2) most_objects 0);
       partial = omega (arith, partial-counted end r most_objects 0 no_counts, many-within (λ p. eqb (statuses_by end r p) 3) most_objects 0);
     })
-
--- an average in its range is small enough for its sign
-pub range_small : (mean : Mean) → leb (stored_of (signed_of mean)) limit ≡ true → mean.size < 4611686018427387904
-range_small mean e = go mean.below mean.size (leb-true (stored_of (signed_of mean)) limit e)
-  where
-    go : (b : Bool) (n : ℕ) → stored_of (pick b (neg_ℤ (pos n)) (pos n)) ≤ limit → n < 4611686018427387904
-    go true zero h = omega arith
-    go true (suc n) h = omega arith
-    go false n h = omega arith
 
 -- ---- the refusals in their order
 

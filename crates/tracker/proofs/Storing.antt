@@ -12,6 +12,9 @@ use Rattle.wire.specs.Bytes.{splice}
 use Rattle.wire.specs.Fields.{fixed, written}
 use Rattle.wire.proofs.Bytes.{splice-splice}
 use Rattle.wire.proofs.Writing.{placed-yes}
+use Rattle.entries.specs.Entries.{status_number}
+use Rattle.entries.specs.declared.Status.{Status}
+use Rattle.entries.specs.declared.Status.TheVariants.{Received, Late, NotReceived, Partial}
 use Rattle.tracker.specs.Known.{most_objects, Known}
 use Rattle.tracker.specs.Status.{no_status, since_of, age_of, entry_bytes, bytes_at, entries_from}
 use Rattle.tracker.proofs.Walks.{remains, none-remains}
@@ -20,6 +23,12 @@ pub length-splice : (xs ys : List ℕ) (at : ℕ) → at + length ys ≤ length 
 length-splice xs ys at h = simp (length-append, length-take, length-drop) (omega arith)
 
 -- ---- one entry in three fields
+
+pub status-known : (status : Status) → status_number status < no_status
+status-known Received = omega arith
+status-known Late = omega arith
+status-known NotReceived = omega arith
+status-known Partial = omega arith
 
 -- the status and the three zero bytes are one field of four bytes
 status-field : (status : ℕ) → status < no_status → fixed 4 (status * 16777216) ≡ status ∷ 0 ∷ 0 ∷ 0 ∷ []

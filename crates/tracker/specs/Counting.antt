@@ -1,12 +1,11 @@
 -- How the code comes to the summary: what one walk over the objects gathers, from where on objects are lost, and the average of a spread.
-use Rattle.std.specs.Prelude.{ℕ, zero, suc, ◌+◌, ◌-◌, ◌/◌, ◌%◌, max, min, true, false, List, eqb, leb, ltb, ℤ, pos, neg_ℤ}
+use Rattle.std.specs.Prelude.{ℕ, zero, suc, ◌+◌, ◌-◌, ◌/◌, ◌%◌, max, min, List, eqb, leb, ltb, ℤ, pos, neg_ℤ}
 use Rattle.wire.specs.Bytes.{pick}
 use Rattle.wire.specs.Numbers.{limit}
 use Rattle.tracker.specs.Record.{interval_of, named_of, word_at, time_of, fate_of, has_arrived, first_place, first_time}
 use Rattle.tracker.specs.Status.{status_from}
 use Rattle.tracker.specs.declared.Spread.{Spread}
 use Rattle.tracker.specs.declared.Counts.{Counts}
-use Rattle.tracker.specs.declared.Mean.{Mean}
 
 -- ---- the arrivals: the end of the highest place, the earliest and the latest time
 
@@ -63,11 +62,8 @@ counts_from end r (suc n) place c = counts_from end r n (suc place) (counted_in 
 abbrev pub rounded_up : ℕ → ℕ → ℕ
 rounded_up spread gaps = pick (eqb (spread % gaps) 0) (spread / gaps) (spread / gaps + 1)
 
-unfoldable pub mean_by : ℕ → ℕ → ℕ → Mean
+unfoldable pub mean_by : ℕ → ℕ → ℕ → ℤ
 mean_by spread gaps interval =
-    pick (eqb gaps 0) (record { below = false; size = 0 })
-    (pick (leb interval (spread / gaps)) (record { below = false; size = spread / gaps - interval })
-    (record { below = true; size = interval - rounded_up spread gaps }))
-
-abbrev pub signed_of : Mean → ℤ
-signed_of m = pick m.below (neg_ℤ (pos m.size)) (pos m.size)
+    pick (eqb gaps 0) (pos 0)
+    (pick (leb interval (spread / gaps)) (pos (spread / gaps - interval))
+    (neg_ℤ (pos (interval - rounded_up spread gaps))))

@@ -1,7 +1,9 @@
 -- The status of an object at a time, and the entry that it makes.
-use Rattle.std.specs.Prelude.{ℕ, zero, suc, ◌+◌, ◌-◌, ◌*◌, ◌^◌, min, Bool, true, false, List, [], ◌∷◌, ◌++◌, eqb, ltb}
+use Rattle.std.specs.Prelude.{ℕ, zero, suc, ◌+◌, ◌-◌, ◌*◌, ◌^◌, min, Bool, true, false, List, [], ◌∷◌, ◌++◌, Option, Some, None, eqb, ltb}
 use Rattle.wire.specs.Bytes.{pick}
 use Rattle.wire.specs.Fields.{fixed}
+use Rattle.entries.specs.Entries.{status_number}
+use Rattle.entries.specs.declared.Status.{Status}
 use Rattle.tracker.specs.Known.{most_objects, Fate, unknown, ended, came, has_come, FirstArrival, none_yet, first_came, Known}
 
 -- ---- when an object that has not arrived is lost
@@ -35,6 +37,11 @@ is_lost k time place = pick (larger_arrived k place) true (overdue k time place)
 
 abbrev pub no_status : ℕ
 no_status = 4
+
+-- the number of what may be a status
+abbrev pub code_of : Option Status → ℕ
+code_of None = no_status
+code_of (Some status) = status_number status
 
 -- "An object that arrived is late if [..], otherwise received. One that has not arrived is partial if it ended early; otherwise not received once [..]; otherwise it has no status"
 abbrev pub status_from : Fate → Bool → ℕ

@@ -1,33 +1,16 @@
 // What the walks over the objects gather for the summary.
-ghost use Rattle.std.specs.Prelude.{◌≡◌, ◌+◌, ◌-◌, ◌<◌, ◌≤◌, min, max};
+ghost use Rattle.std.specs.Prelude.{◌≡◌, ◌+◌, ◌<◌, ◌≤◌};
 ghost use Rattle.tracker.specs.Record.{named_of};
+ghost use Rattle.tracker.specs.Status.{code_of};
 ghost use Rattle.tracker.specs.Counting.{no_arrival, widened, spread_from, reach_of, loss_end, status_by, no_counts, counted_in, counts_from};
 
 use crate::record::{has_arrived, state};
 use crate::{
-    AT_INTERVAL, AT_NAMED, AT_OBJECTS, Counts, ENDED_EARLY, LATE, NO_STATUS, OBJECTS, RECEIVED,
-    Spread, TIMES, WORDS,
+    AT_INTERVAL, AT_NAMED, AT_OBJECTS, Counts, ENDED_EARLY, LATE, OBJECTS, RECEIVED, Spread, TIMES,
+    WORDS,
 };
+use entries::Status;
 use wire::LARGEST;
-
-pub(crate) fn smaller_of(a: u64, b: u64) -> u64
-    ensures { result ≡ min a b }
-{
-    if a <= b { a } else { b }
-}
-
-fn larger_of(a: u64, b: u64) -> u64
-    ensures { result ≡ max a b }
-{
-    if a <= b { b } else { a }
-}
-
-// a less b, and 0 where b is larger.
-pub(crate) fn minus(a: u64, b: u64) -> u64
-    ensures { result ≡ a - b }
-{
-    if a <= b { 0 } else { a - b }
-}
 
 // The spread with one more object.
 fn widened(spread: Spread, word: u64, place: usize) -> Spread
@@ -40,8 +23,8 @@ fn widened(spread: Spread, word: u64, place: usize) -> Spread
     let time = word % TIMES;
     Spread {
         top: (place as u64) + 1,
-        earliest: smaller_of(spread.earliest, time),
-        latest: larger_of(spread.latest, time),
+        earliest: spread.earliest.min(time),
+        latest: spread.latest.max(time),
     }
 }
 
@@ -54,10 +37,8 @@ pub(crate) fn spread_of(tracker: &[u64; WORDS]) -> Spread
         earliest: LARGEST,
         latest: 0,
     };
-    let mut place: usize = 0;
-    while place < OBJECTS {
+    for place in 0..OBJECTS {
         spread = widened(spread, tracker[AT_OBJECTS + place], place);
-        place += 1;
     }
     spread
 }
@@ -87,50 +68,42 @@ pub(crate) fn loss_end(tracker: &[u64; WORDS], time: u64, top: u64) -> u64
     let place = named - 1;
     let at = AT_OBJECTS + place as usize;
     let first = tracker[at] % TIMES;
-    larger_of(top, place + reach(tracker[AT_INTERVAL], minus(time, first)))
+    top.max(place + reach(tracker[AT_INTERVAL], time.saturating_sub(first)))
 }
 
-// The status of an object from its word and place, by the end of those lost.
-pub(crate) fn status(word: u64, place: usize, end: u64) -> u64
+// The status of an object from its word and place, by the end of those lost, or that it has none.
+pub(crate) fn status(word: u64, place: usize, end: u64) -> Option<Status>
     requires { place < 256 }
-    ensures { result ≡ status_by end word place }
+    ensures { code_of result ≡ status_by end word place }
 {
     let known = state(word);
     if known == RECEIVED {
-        return 0;
+        return Some(Status::Received);
     }
     if known == LATE {
-        return 1;
+        return Some(Status::Late);
     }
     if known == ENDED_EARLY {
-        return 3;
+        return Some(Status::Partial);
     }
     if (place as u64) + 1 < end {
-        return 2;
+        return Some(Status::NotReceived);
     }
-    NO_STATUS
+    None
 }
 
-// The counts with one more status.
-fn counted(counts: Counts, status: u64) -> Counts
+// The counts with one object more.
+fn counted(counts: Counts, status: Option<Status>) -> Counts
     requires { (counts.received < 1000) × ((counts.late < 1000) × ((counts.missing < 1000) × (counts.partial < 1000))) }
-    ensures { result ≡ counted_in counts status }
+    ensures { result ≡ counted_in counts (code_of status) }
 {
     let mut next = counts;
     match status {
-        0 => {
-            next.received = counts.received + 1;
-        }
-        1 => {
-            next.late = counts.late + 1;
-        }
-        2 => {
-            next.missing = counts.missing + 1;
-        }
-        3 => {
-            next.partial = counts.partial + 1;
-        }
-        _ => {}
+        Some(Status::Received) => next.received += 1,
+        Some(Status::Late) => next.late += 1,
+        Some(Status::NotReceived) => next.missing += 1,
+        Some(Status::Partial) => next.partial += 1,
+        None => {}
     }
     next
 }
@@ -145,10 +118,8 @@ pub(crate) fn counts_of(tracker: &[u64; WORDS], end: u64) -> Counts
         missing: 0,
         partial: 0,
     };
-    let mut place: usize = 0;
-    while place < OBJECTS {
+    for place in 0..OBJECTS {
         counts = counted(counts, status(tracker[AT_OBJECTS + place], place, end));
-        place += 1;
     }
     counts
 }

@@ -35,6 +35,7 @@ const AT_OBJECTS: usize = 3;
 // One past the largest time: a word is its state times this, and the time.
 const TIMES: u64 = wire::LARGEST + 1;
 
+// The states stay numbers: they are bits of the record's words, which a host keeps for lumbixet_tracker_open and its kin.
 // Nothing is known of the object; the time means nothing.
 const NOTHING: u64 = 0;
 
@@ -46,9 +47,6 @@ const RECEIVED: u64 = 2;
 
 // The object arrived at the time, after its deadline.
 const LATE: u64 = 3;
-
-// Objects with this status and above it have none, and make no entry.
-const NO_STATUS: u64 = 4;
 
 // What one walk over the arrivals gathers.
 #[derive(Clone, Copy)]
@@ -68,11 +66,4 @@ struct Counts {
     late: u64,
     missing: u64,
     partial: u64,
-}
-
-// A signed number as its size and whether it is below 0.
-#[derive(Clone, Copy)]
-struct Mean {
-    below: bool,
-    size: u64,
 }

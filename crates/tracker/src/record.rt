@@ -43,12 +43,10 @@ pub(crate) fn numbers_obey(first: u64, interval: u64) -> bool
 fn none_arrived(tracker: &[u64; WORDS]) -> bool
     ensures { result ≡ none_arrived 256 0 tracker.now }
 {
-    let mut place: usize = 0;
-    while place < OBJECTS {
+    for place in 0..OBJECTS {
         if has_arrived(tracker[AT_OBJECTS + place]) {
             return false;
         }
-        place += 1;
     }
     true
 }

@@ -1,38 +1,36 @@
 // The entries, one record for each object with a status.
 ghost use Rattle.std.specs.Prelude.{◌≡◌, ◌+◌, ◌*◌, ◌<◌, ◌≤◌, length};
 ghost use Rattle.wire.specs.Bytes.{splice};
+ghost use Rattle.entries.specs.Entries.{status_number};
 ghost use Rattle.tracker.specs.Record.{first_of, known};
 ghost use Rattle.tracker.specs.Status.{age_of, entry_bytes, entries_from};
 ghost use Rattle.tracker.specs.Counting.{statuses_by};
 
-use crate::counting::{smaller_of, status};
-use crate::{AT_FIRST, AT_OBJECTS, NO_STATUS, OBJECTS, TIMES, WORDS};
-use entries::RECORD;
+use crate::counting::status;
+use crate::{AT_FIRST, AT_OBJECTS, OBJECTS, TIMES, WORDS};
+use entries::{RECORD, Status};
 
 // The largest four-byte number.
 const OLDEST: u64 = 4294967295;
 
 // The age of an entry: 0 where the object is not received, or the clock went back.
-fn age(status: u64, time: u64, since: u64) -> u64
-    ensures { (result ≡ age_of status time since) × (result ≤ 4294967295) }
+fn age(status: Status, time: u64, since: u64) -> u64
+    ensures { (result ≡ age_of (status_number status) time since) × (result ≤ 4294967295) }
 {
-    if status == 2 {
-        return 0;
+    match status {
+        Status::NotReceived => 0,
+        _ => time.saturating_sub(since).min(OLDEST),
     }
-    if time < since {
-        return 0;
-    }
-    smaller_of(time - since, OLDEST)
 }
 
-// Writes one entry record, which fits. The status and the three zero bytes are written as one field of four bytes.
-fn put_entry(buf: &mut [u8], at: usize, object: u64, status: u64, age: u64)
-    requires { (at + 16 ≤ length buf.old) × ((status < 4) × (age ≤ 4294967295)) }
-    ensures { buf.new ≡ splice buf.old at (entry_bytes object status age) }
+// Writes one entry record, which fits, so that no field is refused. The status and the three zero bytes are written as one field of four bytes.
+fn put_entry(buf: &mut [u8], at: usize, object: u64, status: Status, age: u64)
+    requires { (at + 16 ≤ length buf.old) × (age ≤ 4294967295) }
+    ensures { buf.new ≡ splice buf.old at (entry_bytes object (status_number status) age) }
 {
-    wire::put_fixed8(buf, at, object);
-    wire::put_fixed4(buf, at + 8, (status * 16777216) as u32);
-    wire::put_fixed4(buf, at + 12, age as u32);
+    let _ = wire::put_fixed8(buf, at, object);
+    let _ = wire::put_fixed4(buf, at + 8, (status.number() * 16777216) as u32);
+    let _ = wire::put_fixed4(buf, at + 12, age as u32);
 }
 
 // Writes the entries of all objects with a status, by the end of those lost; they fit.
@@ -42,15 +40,12 @@ pub(crate) fn put_entries(buf: &mut [u8], tracker: &[u64; WORDS], time: u64, end
 {
     let first = tracker[AT_FIRST];
     let mut at: usize = 0;
-    let mut place: usize = 0;
-    while place < OBJECTS {
+    for place in 0..OBJECTS {
         let word = tracker[AT_OBJECTS + place];
-        let status = status(word, place, end);
-        if status < NO_STATUS {
+        if let Some(status) = status(word, place, end) {
             let age = age(status, time, word % TIMES);
             put_entry(buf, at, first + place as u64, status, age);
             at += RECORD;
         }
-        place += 1;
     }
 }

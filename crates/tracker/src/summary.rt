@@ -1,36 +1,25 @@
 // The summary and the entries for a given time and report interval.
 ghost use Rattle.std.specs.Prelude.{◌≡◌, ◌<◌, ◌+◌, length};
+ghost use Rattle.wire.specs.Refusals.{number_of};
 ghost use Rattle.report.specs.Header.{empty_header};
 ghost use Rattle.tracker.specs.Report.{header_of, report_answer, report_bytes};
 
-use crate::average::{in_range, mean, signed};
-use crate::counting::{counts_of, loss_end, minus, spread_of};
+use crate::average::{in_range, mean};
+use crate::counting::{counts_of, loss_end, spread_of};
 use crate::record::{both_obey, consistent};
 use crate::records::put_entries;
 use crate::{AT_INTERVAL, Counts, WORDS};
 use entries::RECORD;
 use report::{Header, Report};
+use wire::Refusal;
 
 // A refusal has the empty header.
-fn refused(refusal: u64) -> Report
-    ensures { result ≡ record { refusal = refusal; header = empty_header } }
+fn refused(refusal: Refusal) -> Report
+    ensures { result ≡ record { refusal = number_of refusal; header = empty_header } }
 {
-    let none = [0u64; 8];
     Report {
-        refusal,
-        header: Header {
-            timestamp: 0,
-            interval: 0,
-            total: 0,
-            received: 0,
-            late: 0,
-            lost: 0,
-            average: 0,
-            metrics: 0,
-            kinds: none,
-            values: none,
-            entries: 0,
-        },
+        refusal: refusal.number(),
+        header: report::empty_header(),
     }
 }
 
@@ -57,31 +46,32 @@ fn header(time: u64, interval: u64, counts: Counts, average: i64) -> Header
     }
 }
 
+// It answers a Report, which is the C struct of lumbixet_tracker_report and has the refusal as its number.
 // Makes the entries and the summary for a time and a report interval; nothing is written on a refusal.
 pub fn report(tracker: &[u64; WORDS], time: u64, interval: u64, entries: &mut [u8]) -> Report
     ensures { (result ≡ report_answer tracker.now time interval (length entries.old)) × (entries.new ≡ report_bytes tracker.now time interval entries.old) }
 {
     if !consistent(tracker) {
-        return refused(1);
+        return refused(Refusal::Inconsistent);
     }
     if !both_obey(time, interval) {
-        return refused(5);
+        return refused(Refusal::TooLarge);
     }
     let spread = spread_of(tracker);
     let end = loss_end(tracker, time, spread.top);
     let counts = counts_of(tracker, end);
-    let gaps = minus(counts.received + counts.late, 1);
+    let gaps = (counts.received + counts.late).saturating_sub(1);
     let average = mean(
-        minus(spread.latest, spread.earliest),
+        spread.latest.saturating_sub(spread.earliest),
         gaps,
         tracker[AT_INTERVAL],
     );
     if !in_range(average) {
-        return refused(5);
+        return refused(Refusal::TooLarge);
     }
-    let header = header(time, interval, counts, signed(average));
+    let header = header(time, interval, counts, average);
     if entries.len() / RECORD < header.total as usize {
-        return refused(9);
+        return refused(Refusal::NoRoom);
     }
     put_entries(entries, tracker, time, end);
     Report { refusal: 0, header }

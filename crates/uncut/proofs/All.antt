@@ -9,6 +9,7 @@ use borrow.Author.Tests.{leb-true, le-ltb}
 use lib.Dec.{leb, eqb}
 use lib.ListN.{length, drop, length-drop}
 use Rattle.wire.specs.Bytes.{pick}
+use Rattle.wire.specs.declared.Refusal.TheVariants.{Ends, BrokenEntry, BytesRemain}
 use Rattle.entries.specs.Profiles.{record_size}
 use Rattle.entries.specs.Entries.{entries_good}
 use Rattle.entries.specs.declared.Profile.{Profile}
@@ -22,12 +23,12 @@ use Rattle.uncut.proofs.Uncut.{good-delivered}
 
 all_of : (p : Profile) (s : List ℕ) (r : Reading) → (report_of (judge_entries p s r)).refusal ≡ 0 → good_in p s r ≡ entries_in p s (judge_entries p s r)
 unfolding good_in judge_entries entries_in report_of
-all_of p s (Stopped n) e = refl
+all_of p s (Stopped refusal) e = refl
 all_of p s (Whole ns at) e = go (leb (at + record_size p * count_of ns) (length s)) refl (entries_good p (part_of p s ns at)) refl (eqb (at + record_size p * count_of ns) (length s)) e
   where
     go : (l : Bool) → leb (at + record_size p * count_of ns) (length s) ≡ l → (g : Bool) → entries_good p (part_of p s ns at) ≡ g → (q : Bool)
-        → (report_of (pick l (pick g (pick q (Whole ns at) (Stopped 13)) (Stopped 12)) (Stopped 2))).refusal ≡ 0
-        → good_run p (count_of ns) 0 0 (drop at s) ≡ entries_in p s (pick l (pick g (pick q (Whole ns at) (Stopped 13)) (Stopped 12)) (Stopped 2))
+        → (report_of (pick l (pick g (pick q (Whole ns at) (Stopped BytesRemain)) (Stopped BrokenEntry)) (Stopped Ends))).refusal ≡ 0
+        → good_run p (count_of ns) 0 0 (drop at s) ≡ entries_in p s (pick l (pick g (pick q (Whole ns at) (Stopped BytesRemain)) (Stopped BrokenEntry)) (Stopped Ends))
     go true t true u true e =
         let m : length (drop at s) ≡ length s - at = length-drop at s in
         let h : at + record_size p * count_of ns ≤ length s = leb-true (at + record_size p * count_of ns) (length s) t in

@@ -7,20 +7,22 @@ use mathlib.Core.List.{List, [], ◌∷◌, ◌++◌}
 use native.Mathlib.Omega.{arith}
 use lib.Dec.{leb, eqb, ltb}
 use lib.ListN.{length}
+use Rattle.std.specs.Prelude.{Result, Ok, Err}
 use Rattle.wire.specs.Bytes.{pick}
 use Rattle.wire.specs.Fields.{formed}
 use Rattle.wire.specs.Numbers.{read_number}
 use Rattle.wire.specs.declared.Number.{Number}
-use Rattle.wire.specs.declared.Number.TheVariants.{Value, Ends}
+use Rattle.wire.specs.declared.Refusal.{Refusal}
+use Rattle.wire.specs.declared.Refusal.TheVariants.{Ends, BrokenEntry, BytesRemain}
 use Rattle.entries.specs.Profiles.{record_size}
 use Rattle.entries.specs.Entries.{entry_of, records_good, entries_good}
 use Rattle.entries.specs.declared.Profile.{Profile}
 use Rattle.report.specs.Limits.{most_numbers}
-use Rattle.report.specs.Header.{judge_field, wanted_of, count_of, header_of, empty_header}
+use Rattle.report.specs.Header.{heeding, judge_field, wanted_of, count_of, header_of, empty_header}
 use Rattle.report.specs.Reader.{Reading, Whole, Stopped, part_of, read_numbers, judge_entries, report_reading, report_of}
 use Rattle.report.specs.declared.Header.{Header}
 use Rattle.uncut.specs.State.{State, Numbers, Records, Counting, Refused, Accepted, start, header_at, whole_at}
-use Rattle.uncut.specs.Step.{group_in, above_in, after_bad, with_number, field_grown, record_judged, record_grown, step, after}
+use Rattle.uncut.specs.Step.{group_in, above_in, after_bad, refused, with_number, field_grown, record_judged, record_grown, step, after}
 use Rattle.uncut.specs.Whole.{header_in, HeaderOfNumbers, HeaderOfAccepted}
 use Rattle.uncut.proofs.Cuts.{closed_after}
 use Rattle.uncut.proofs.Free.{Made, ahead, free-is, field_step}
@@ -82,13 +84,13 @@ module _ (p : Profile) where
       wanted ms true = tt
       wanted ms false = tt
 
-      judged : (v j : ℕ) (b : Bool) → Fresh (pick b (with_number p (ns ++ (v ∷ []))) (Refused j))
-      judged v j true = wanted (ns ++ (v ∷ [])) (leb (wanted_of p (ns ++ (v ∷ []))) (length (ns ++ (v ∷ []))))
-      judged v j false = tt
+      judged : (v : ℕ) (x : Result Unit Refusal) → Fresh (heeding x refused (with_number p (ns ++ (v ∷ []))))
+      judged v (Ok u) = wanted (ns ++ (v ∷ [])) (leb (wanted_of p (ns ++ (v ∷ []))) (length (ns ++ (v ∷ []))))
+      judged v (Err refusal) = tt
 
-      go : (q : Number) → Fresh (formed q (Numbers ns held) (λ v next b. pick (eqb (judge_field p ns v b) 0) (with_number p (ns ++ (v ∷ []))) (Refused (judge_field p ns v b))))
-      go (Value v next b) = judged v (judge_field p ns v b) (eqb (judge_field p ns v b) 0)
-      go Ends = tt
+      go : (q : Result Number Refusal) → Fresh (formed q (Numbers ns held) (λ v next b. heeding (judge_field p ns v b) refused (with_number p (ns ++ (v ∷ [])))))
+      go (Ok n) = judged n.value (judge_field p ns n.value n.shortest)
+      go (Err refusal) = tt
 
   abbrev headers : Made Header
   headers = record { stop = λ n. empty_header; rows = λ ns n last above s. header_of ns; counted = λ n s. empty_header; done = header_of }
@@ -126,16 +128,16 @@ module _ (p : Profile) where
 
 pub header-of-numbers : HeaderOfNumbers
 unfolding ahead
-header-of-numbers p s rest e = early p s rest start (sound-start p) tt e ∙ sym (free-is (headers p) p (s ++ rest) header_in (λ n. refl) (λ ns at h. refl) most_numbers 0 [] zero-le)
+header-of-numbers p s rest e = early p s rest start (sound-start p) tt e ∙ sym (free-is (headers p) p (s ++ rest) header_in (λ refusal. refl) (λ ns at h. refl) most_numbers 0 [] zero-le)
 
 -- where the entries bring no refusal the header is that of the numbers
 judged-header : (p : Profile) (s : List ℕ) (r : Reading) → (report_of (judge_entries p s r)).refusal ≡ 0 → header_in r ≡ (report_of (judge_entries p s r)).header
 unfolding judge_entries report_of
-judged-header p s (Stopped n) e = refl
+judged-header p s (Stopped refusal) e = refl
 judged-header p s (Whole ns at) e = go (leb (at + record_size p * count_of ns) (length s)) (entries_good p (part_of p s ns at)) (eqb (at + record_size p * count_of ns) (length s)) e
   where
-    go : (l g q : Bool) → (report_of (pick l (pick g (pick q (Whole ns at) (Stopped 13)) (Stopped 12)) (Stopped 2))).refusal ≡ 0
-        → header_of ns ≡ (report_of (pick l (pick g (pick q (Whole ns at) (Stopped 13)) (Stopped 12)) (Stopped 2))).header
+    go : (l g q : Bool) → (report_of (pick l (pick g (pick q (Whole ns at) (Stopped BytesRemain)) (Stopped BrokenEntry)) (Stopped Ends))).refusal ≡ 0
+        → header_of ns ≡ (report_of (pick l (pick g (pick q (Whole ns at) (Stopped BytesRemain)) (Stopped BrokenEntry)) (Stopped Ends))).header
     go true true true e = refl
     go true true false e = absurd (omega arith)
     go true false q e = absurd (omega arith)

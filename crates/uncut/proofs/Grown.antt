@@ -10,21 +10,23 @@ use borrow.Author.Tests.{le-leb, lt-leb}
 use lib.Pow.{pow_pos}
 use lib.ListN.{length, get_or, take, drop, length-append, length-drop, get_or-append}
 use lib.Seq.{get_or-drop, take-append-le}
+use Rattle.std.specs.Prelude.{Result, Ok, Err}
 use Rattle.wire.specs.Bytes.{be}
-use Rattle.wire.specs.Fields.{read_fixed}
+use Rattle.wire.specs.Fields.{read_fixed, found}
 use Rattle.wire.specs.Numbers.{len_of, in_form, read_form, read_number}
 use Rattle.wire.specs.declared.Fixed.{Fixed}
-use Rattle.wire.specs.declared.Fixed.TheVariants.{Value as FixedValue}
 use Rattle.wire.specs.declared.Number.{Number}
-use Rattle.wire.specs.declared.Number.TheVariants.{Value, Ends}
+use Rattle.wire.specs.declared.Refusal.{Refusal}
+use Rattle.wire.specs.declared.Refusal.TheVariants.{Ends}
+use Rattle.wire.proofs.Reading.{whole}
 use Rattle.wire.proofs.Lengths.{split}
 
-pub never-value : {A : Type 0} {v next : ℕ} {b : Bool} → Ends ≡ Value v next b → A
-never-value e = let z : ◌≡◌ {A = ℕ} 0 1 = cc in absurd (omega arith)
+pub never-value : {A : Type 0} {refusal : Refusal} {v next : ℕ} {b : Bool} → Err refusal ≡ found v next b → A
+never-value e = absurd (cc)
 
 -- the bytes of a field, where they are there
-abbrev field_at : ℕ → List ℕ → ℕ → Fixed
-field_at k s at = FixedValue (be 0 (take (len_of k) (drop at s))) (at + len_of k)
+abbrev field_at : ℕ → List ℕ → ℕ → Result Fixed Refusal
+field_at k s at = whole (be 0 (take (len_of k) (drop at s))) (at + len_of k)
 
 -- ---- a number that is there
 
@@ -32,24 +34,24 @@ there : (s : List ℕ) (at : ℕ) → at + len_of (get_or s at 0 / 64) ≤ lengt
 unfolding read_number read_form read_fixed
 there s at h = rw (le-leb (at + len_of (get_or s at 0 / 64)) (length s) h)
 
-missing : (s : List ℕ) (at : ℕ) → length s < at + len_of (get_or s at 0 / 64) → read_number s at ≡ Ends
+missing : (s : List ℕ) (at : ℕ) → length s < at + len_of (get_or s at 0 / 64) → read_number s at ≡ Err Ends
 unfolding read_number read_form read_fixed
 missing s at h = rw (lt-leb (at + len_of (get_or s at 0 / 64)) (length s) h)
 
 -- so long a number is read exactly where it is there, and the place after it is behind its last byte
-pub value_there : (s : List ℕ) (at : ℕ) {v next : ℕ} {b : Bool} → read_number s at ≡ Value v next b → at + len_of (get_or s at 0 / 64) ≤ length s
+pub value_there : (s : List ℕ) (at : ℕ) {v next : ℕ} {b : Bool} → read_number s at ≡ found v next b → at + len_of (get_or s at 0 / 64) ≤ length s
 value_there s at e =
     split (at + len_of (get_or s at 0 / 64)) (length s) (λ h. h) (λ h. never-value (sym (missing s at h) ∙ e))
 
-pub ends-missing : (s : List ℕ) (at : ℕ) → read_number s at ≡ Ends → length s < at + len_of (get_or s at 0 / 64)
+pub ends-missing : (s : List ℕ) (at : ℕ) → read_number s at ≡ Err Ends → length s < at + len_of (get_or s at 0 / 64)
 ends-missing s at e =
     split (at + len_of (get_or s at 0 / 64)) (length s) (λ h. never-value (sym e ∙ there s at h)) (λ h. h)
 
-place_of : Number → ℕ
-place_of (Value v next b) = next
-place_of Ends = 0
+place_of : Result Number Refusal → ℕ
+place_of (Ok n) = n.next
+place_of (Err refusal) = 0
 
-pub value-place : (s : List ℕ) (at : ℕ) {v next : ℕ} {b : Bool} → read_number s at ≡ Value v next b → next ≡ at + len_of (get_or s at 0 / 64)
+pub value-place : (s : List ℕ) (at : ℕ) {v next : ℕ} {b : Bool} → read_number s at ≡ found v next b → next ≡ at + len_of (get_or s at 0 / 64)
 unfolding place_of
 value-place s at e = ap place_of (sym e ∙ there s at (value_there s at e))
 
@@ -59,7 +61,7 @@ value-place s at e = ap place_of (sym e ∙ there s at (value_there s at e))
 first-stays : (r s : List ℕ) → 0 < length r → get_or (r ++ s) 0 0 ≡ get_or r 0 0
 first-stays r s h = get_or-append r s 0 0 h
 
-pub still-there : (r s : List ℕ) {v next : ℕ} {b : Bool} → read_number r 0 ≡ Value v next b → read_number (r ++ s) 0 ≡ Value v next b
+pub still-there : (r s : List ℕ) {v next : ℕ} {b : Bool} → read_number r 0 ≡ found v next b → read_number (r ++ s) 0 ≡ found v next b
 still-there r s e =
     let h : 0 + len_of (get_or r 0 0 / 64) ≤ length r = value_there r 0 e in
     let f : get_or (r ++ s) 0 0 ≡ get_or r 0 0 = first-stays r s (omega (arith, pow_pos (get_or r 0 0 / 64))) in
@@ -69,7 +71,7 @@ still-there r s e =
     there (r ++ s) 0 (rw f g) ∙ rw (f, t) (sym (there r 0 h)) ∙ e
 
 -- a field that becomes whole by a byte ends with it
-pub last_byte : (held : List ℕ) (b : ℕ) {v next : ℕ} {c : Bool} → read_number held 0 ≡ Ends → read_number (held ++ (b ∷ [])) 0 ≡ Value v next c
+pub last_byte : (held : List ℕ) (b : ℕ) {v next : ℕ} {c : Bool} → read_number held 0 ≡ Err Ends → read_number (held ++ (b ∷ [])) 0 ≡ found v next c
     → next ≡ length (held ++ (b ∷ []))
 last_byte [] b e r =
     let h : 0 + len_of (b / 64) ≤ 1 = value_there (b ∷ []) 0 r in
@@ -84,9 +86,9 @@ last_byte (x ∷ held) b e r =
 
 -- ---- read at a place, or behind what was dropped before it
 
-abbrev pub moved : ℕ → Number → Number
-moved at (Value v next b) = Value v (at + next) b
-moved at Ends = Ends
+abbrev pub moved : ℕ → Result Number Refusal → Result Number Refusal
+moved at (Ok n) = found n.value (at + n.next) n.shortest
+moved at (Err refusal) = Err refusal
 
 pub read_dropped : (s : List ℕ) (at : ℕ) → at ≤ length s → read_number s at ≡ moved at (read_number (drop at s) 0)
 read_dropped s at h =

@@ -10,13 +10,15 @@ use borrow.Author.Tests.{le-leb, lt-leb, eq-eqb, ne_eqb, eqb-true, eqb-false}
 use lib.Dec.{leb, eqb}
 use lib.ListN.{length, take, drop, length-append, length-drop, take-append-drop}
 use lib.Seq.{take_all, take_at, drop_at, take-add, length-take-le}
+use Rattle.std.specs.Prelude.{Result, Ok, Err}
 use Rattle.wire.specs.Bytes.{pick}
+use Rattle.wire.specs.declared.Refusal.{Refusal}
+use Rattle.wire.specs.declared.Refusal.TheVariants.{BrokenEntry, BytesRemain}
 use Rattle.wire.proofs.Lengths.{split}
 use Rattle.entries.specs.Profiles.{record_size}
 use Rattle.entries.specs.Entries.{entry_of, at_or_above, follows, records_good, entries_good}
 use Rattle.entries.specs.declared.Profile.{Profile}
 use Rattle.entries.specs.declared.Entry.{Entry}
-use Rattle.entries.specs.declared.Entry.TheVariants.{Record, Ends, Broken, OtherProfile}
 use Rattle.report.specs.Header.{header_of, empty_header, count_of}
 use Rattle.report.specs.Reader.{Whole, Stopped, part_of, judge_entries, report_of}
 use Rattle.report.specs.declared.Report.{Report}
@@ -25,15 +27,13 @@ use Rattle.uncut.specs.Whole.{good_run}
 
 -- ---- the rule of a row, by its first record
 
-split_good : (e : Entry) (last above : ℕ) (f : ℕ → ℕ → Bool) → follows last above e f ≡ pick (follows last above e (λ g o. true)) (f (group_in e) (above_in e)) false
-split_good (Record g o status age) last above f = go (at_or_above last above g o)
+split_good : (e : Result Entry Refusal) (last above : ℕ) (f : ℕ → ℕ → Bool) → follows last above e f ≡ pick (follows last above e (λ g o. true)) (f (group_in e) (above_in e)) false
+split_good (Ok e) last above f = go (at_or_above last above e.group e.object)
   where
-    go : (b : Bool) → pick b (f g (suc o)) false ≡ pick (pick b true false) (f g (suc o)) false
+    go : (b : Bool) → pick b (f e.group (suc e.object)) false ≡ pick (pick b true false) (f e.group (suc e.object)) false
     go true = refl
     go false = refl
-split_good Ends last above f = refl
-split_good Broken last above f = refl
-split_good OtherProfile last above f = refl
+split_good (Err refusal) last above f = refl
 
 module _ (p : Profile) where
   pub size-pos : 0 < record_size p
@@ -191,7 +191,7 @@ module _ (p : Profile) (ns : List ℕ) where
       (go (records_good p (count_of ns) 0 0 (drop at s)) (eqb (record_size p * count_of ns) (length (drop at s)))))
       (λ f. rw (leb-more at (record_size p * count_of ns) (length (drop at s)) (at + record_size p * count_of ns) (length s) refl l, lt-leb (record_size p * count_of ns) (length (drop at s)) f))
     where
-      go : (g e : Bool) → report_of (pick g (pick e (Whole ns at) (Stopped 13)) (Stopped 12)) ≡ pick g (pick e (accepted_as ns) (refused_with 13)) (refused_with 12)
+      go : (g e : Bool) → report_of (pick g (pick e (Whole ns at) (Stopped BytesRemain)) (Stopped BrokenEntry)) ≡ pick g (pick e (accepted_as ns) (refused_with 13)) (refused_with 12)
       go true true = refl
       go true false = refl
       go false e = refl

@@ -7,24 +7,27 @@ use mathlib.Core.List.{List, [], ◌∷◌, ◌++◌, append-nil}
 use native.Mathlib.Nat.{mul-zero}
 use native.Mathlib.Omega.{arith}
 use borrow.Author.Tests.{lt-leb, le-leb, leb-false, ne_eqb, ltb-true, ltb-false}
-use lib.Dec.{leb, eqb, ltb}
+use lib.Dec.{leb, ltb}
 use lib.ListN.{length, length-append}
 use lib.Seq.{append_snoc}
+use Rattle.std.specs.Prelude.{Result, Ok, Err}
 use Rattle.wire.specs.Bytes.{pick}
 use Rattle.wire.specs.Fields.{formed}
 use Rattle.wire.specs.Numbers.{read_number}
 use Rattle.wire.specs.declared.Number.{Number}
-use Rattle.wire.specs.declared.Number.TheVariants.{Value, Ends}
+use Rattle.wire.specs.declared.Refusal.{Refusal}
+use Rattle.wire.specs.declared.Refusal.TheVariants.{Ends}
 use Rattle.wire.proofs.Reading.{number-ends}
 use Rattle.entries.specs.Profiles.{record_size}
 use Rattle.entries.specs.Entries.{entry_of, records_good}
 use Rattle.entries.specs.declared.Profile.{Profile}
 use Rattle.report.specs.Limits.{most_numbers}
-use Rattle.report.specs.Header.{judge_field, wanted_of, count_of}
+use Rattle.report.specs.Header.{heeding, judge_field, wanted_of, count_of}
 use Rattle.report.specs.Reader.{judge_entries, report_reading, report_of}
 use Rattle.report.specs.declared.Report.{Report}
+use Rattle.report.proofs.Heeding.{number-refused}
 use Rattle.uncut.specs.State.{State, Numbers, Records, Counting, Refused, Accepted, start, report_at, at_end}
-use Rattle.uncut.specs.Step.{group_in, above_in, after_bad, with_number, field_grown, record_judged, record_grown, record_given, step, given, after, delivered}
+use Rattle.uncut.specs.Step.{group_in, above_in, after_bad, refused, with_number, field_grown, record_judged, record_grown, record_given, step, given, after, delivered}
 use Rattle.uncut.specs.Whole.{good_run, good_in, SameAnswer, GoodDelivered}
 use Rattle.uncut.proofs.Rows.{size-pos, leb-more, run-next, run_short, refused_with, accepted_as, entries_from, counted_on, entries_next, entries-short, entries-whole}
 use Rattle.uncut.proofs.Free.{Made, ahead, free-is, field-ends, field_step}
@@ -32,7 +35,7 @@ use Rattle.uncut.proofs.Free.{Made, ahead, free-is, field-ends, field_step}
 -- ---- states that bytes come to: a field or a record that is carried is unfinished
 
 abbrev pub Sound : Profile → State → Type 0
-Sound p (Numbers ns held) = (length ns < wanted_of p ns) × (read_number held 0 ≡ Ends)
+Sound p (Numbers ns held) = (length ns < wanted_of p ns) × (read_number held 0 ≡ Err Ends)
 Sound p (Records ns n last above held) = length held < record_size p
 Sound p (Counting ns n) = Unit
 Sound p (Refused n) = Unit
@@ -51,14 +54,14 @@ module _ (p : Profile) where
   unfolding field_grown
   sound-field ns held w = go (read_number held 0) refl
     where
-      judged : (v j : ℕ) (b : Bool) → Sound p (pick b (with_number p (ns ++ (v ∷ []))) (Refused j))
-      judged v j true = sound-number (ns ++ (v ∷ []))
-      judged v j false = tt
+      judged : (v : ℕ) (x : Result Unit Refusal) → Sound p (heeding x refused (with_number p (ns ++ (v ∷ []))))
+      judged v (Ok u) = sound-number (ns ++ (v ∷ []))
+      judged v (Err refusal) = tt
 
-      go : (q : Number) → read_number held 0 ≡ q
-          → Sound p (formed q (Numbers ns held) (λ v next b. pick (eqb (judge_field p ns v b) 0) (with_number p (ns ++ (v ∷ []))) (Refused (judge_field p ns v b))))
-      go (Value v next b) e = judged v (judge_field p ns v b) (eqb (judge_field p ns v b) 0)
-      go Ends e = (w, e)
+      go : (q : Result Number Refusal) → read_number held 0 ≡ q
+          → Sound p (formed q (Numbers ns held) (λ v next b. heeding (judge_field p ns v b) refused (with_number p (ns ++ (v ∷ [])))))
+      go (Ok n) e = judged n.value (judge_field p ns n.value n.shortest)
+      go (Err refusal) e = (w, e ∙ ap Err (number-refused held 0 e))
 
   sound-record : (ns : List ℕ) (n last above : ℕ) (held : List ℕ) → Sound p (record_grown p ns n last above held)
   unfolding record_grown record_judged
@@ -194,10 +197,10 @@ pub same_answer : SameAnswer
 unfolding ahead report_reading judge_entries report_of
 same_answer p s =
     answer-ahead p start s (sound-start p)
-    ∙ sym (free-is (answers p) p s (λ r. report_of (judge_entries p s r)) (λ n. refl) (λ ns at h. entries-whole p ns s at h) most_numbers 0 [] zero-le)
+    ∙ sym (free-is (answers p) p s (λ r. report_of (judge_entries p s r)) (λ refusal. refl) (λ ns at h. entries-whole p ns s at h) most_numbers 0 [] zero-le)
 
 pub good-delivered : GoodDelivered
 unfolding ahead good_in
 good-delivered p s =
     delivered-ahead p start s (sound-start p)
-    ∙ sym (free-is (delivers p) p s (good_in p s) (λ n. refl) (λ ns at h. refl) most_numbers 0 [] zero-le)
+    ∙ sym (free-is (delivers p) p s (good_in p s) (λ refusal. refl) (λ ns at h. refl) most_numbers 0 [] zero-le)

@@ -1,14 +1,15 @@
 -- What one byte more brings: the next state, and the record that it makes whole. Bytes one after the other are a fold over that.
-use Rattle.std.specs.Prelude.{ℕ, zero, suc, ◌*◌, List, [], ◌∷◌, ◌++◌, eqb, leb, ltb, length}
+use Rattle.std.specs.Prelude.{ℕ, zero, suc, ◌*◌, List, [], ◌∷◌, ◌++◌, Result, Ok, Err, leb, ltb, length}
 use Rattle.wire.specs.Bytes.{pick}
 use Rattle.wire.specs.Fields.{formed}
 use Rattle.wire.specs.Numbers.{read_number}
+use Rattle.wire.specs.Refusals.{number_of}
+use Rattle.wire.specs.declared.Refusal.{Refusal}
 use Rattle.entries.specs.Profiles.{record_size}
 use Rattle.entries.specs.Entries.{entry_of, records_good}
 use Rattle.entries.specs.declared.Profile.{Profile}
 use Rattle.entries.specs.declared.Entry.{Entry}
-use Rattle.entries.specs.declared.Entry.TheVariants.{Record, Ends, Broken, OtherProfile}
-use Rattle.report.specs.Header.{judge_field, wanted_of, count_of}
+use Rattle.report.specs.Header.{heeding, judge_field, wanted_of, count_of}
 use Rattle.uncut.specs.State.{State, Numbers, Records, Counting, Refused, Accepted}
 
 -- ---- the header
@@ -17,26 +18,26 @@ use Rattle.uncut.specs.State.{State, Numbers, Records, Counting, Refused, Accept
 unfoldable pub with_number : Profile → List ℕ → State
 with_number p ns = pick (leb (wanted_of p ns) (length ns)) (Records ns (count_of ns) 0 0 []) (Numbers ns [])
 
+-- a refusal is carried as its number
+abbrev pub refused : Refusal → State
+refused refusal = Refused (number_of refusal)
+
 -- the field is carried until it is whole; then the step of the whole reader judges it
 unfoldable pub field_grown : Profile → List ℕ → List ℕ → State
 field_grown p ns held =
     formed (read_number held 0) (Numbers ns held) (λ v next shortest.
-    pick (eqb (judge_field p ns v shortest) 0) (with_number p (ns ++ (v ∷ []))) (Refused (judge_field p ns v shortest)))
+    heeding (judge_field p ns v shortest) refused (with_number p (ns ++ (v ∷ []))))
 
 -- ---- the entries
 
 -- what a good record leaves for the next one
-abbrev pub group_in : Entry → ℕ
-group_in (Record group object status age) = group
-group_in Ends = 0
-group_in Broken = 0
-group_in OtherProfile = 0
+abbrev pub group_in : Result Entry Refusal → ℕ
+group_in (Ok entry) = entry.group
+group_in (Err refusal) = 0
 
-abbrev pub above_in : Entry → ℕ
-above_in (Record group object status age) = suc object
-above_in Ends = 0
-above_in Broken = 0
-above_in OtherProfile = 0
+abbrev pub above_in : Result Entry Refusal → ℕ
+above_in (Ok entry) = suc entry.object
+above_in (Err refusal) = 0
 
 -- "After a bad record it delivers nothing more and counts the bytes on": those of the n records still to come
 abbrev pub after_bad : Profile → List ℕ → ℕ → State

@@ -22,7 +22,7 @@ good_run p (suc n) last above s =
 -- those of a report: none where the header is refused
 unfoldable pub good_in : Profile → List ℕ → Reading → List ℕ
 good_in p s (Whole ns at) = good_run p (count_of ns) 0 0 (drop at s)
-good_in p s (Stopped n) = []
+good_in p s (Stopped refusal) = []
 
 abbrev pub good_records : Profile → List ℕ → List ℕ
 good_records p s = good_in p s (read_numbers p s)
@@ -48,7 +48,7 @@ StandsAtTheEnd = (st : State) → (standing st ≡ 0 → ⊥) → standing (at_e
 -- the header of the numbers that were read
 abbrev pub header_in : Reading → Header
 header_in (Whole ns at) = header_of ns
-header_in (Stopped n) = empty_header
+header_in (Stopped refusal) = empty_header
 
 -- one that is handed over is that of the report's numbers, as the whole reader reads them, whatever bytes are still to come
 abbrev pub HeaderOfNumbers : Type 0

@@ -47,7 +47,7 @@ pub fn read_frequency(rt: &impl Print, s: &[u8]) -> io::Result<()> {
 pub fn read_immediate(rt: &impl Print, s: &[u8]) -> io::Result<()> {
     print!(rt; "read_immediate")?;
     show::bytes(rt, s)?;
-    show::immediate(rt, frames::read_immediate(s))
+    show::length(rt, frames::read_immediate(s))
 }
 
 // An ACK frame whose ranges go to the lent slice.

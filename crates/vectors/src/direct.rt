@@ -1,7 +1,6 @@
 // Calls that the receiver and the replay program make only where they cannot go wrong: what they answer elsewhere is shown here.
 use crate::show;
 use std::io;
-use window::Missing;
 
 // Two places, and the lower one again; the window's first word says which are marked.
 fn marked_twice(rt: &impl Print) -> io::Result<()> {
@@ -18,8 +17,8 @@ fn first_missing(rt: &impl Print, to: u64) -> io::Result<()> {
     words[0] = 31;
     print!(rt; "first_missing from 0 to {to}")?;
     match window::first_missing(&words, 0, to) {
-        Missing::At(place) => println!(rt; ": place {place}"),
-        Missing::Nothing => println!(rt; ": nothing"),
+        Some(place) => println!(rt; ": place {place}"),
+        None => println!(rt; ": nothing"),
     }
 }
 

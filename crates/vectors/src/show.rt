@@ -1,8 +1,8 @@
 // How a line is written: the call, the bytes or numbers that it is given, and what it answers.
-use frames::{Ack, Checked, Frequency, Immediate, Tail};
+use frames::{Ack, Checked, Counts, Frequency};
 use receiver::{Agreed, Verdict};
 use std::io;
-use wire::{Fixed, Length, Number, Put};
+use wire::{Fixed, Number, Refusal};
 
 // The bytes of s, a blank before each.
 pub fn bytes(rt: &impl Print, s: &[u8]) -> io::Result<()> {
@@ -27,8 +27,8 @@ pub fn numbers(rt: &impl Print, s: &[u64]) -> io::Result<()> {
 }
 
 // What is said in place of an answer.
-fn refused(rt: &impl Print, refusal: u64) -> io::Result<()> {
-    print!(rt; ": refused {refusal}")
+fn refused(rt: &impl Print, refusal: Refusal) -> io::Result<()> {
+    print!(rt; ": refused {}", refusal.number())
 }
 
 // A value that was read, and how many bytes it took.
@@ -37,101 +37,98 @@ fn value_found(rt: &impl Print, value: u64, length: usize) -> io::Result<()> {
 }
 
 // What a reader of fixed fields answers.
-pub fn fixed(rt: &impl Print, answer: Fixed) -> io::Result<()> {
+pub fn fixed(rt: &impl Print, answer: Result<Fixed, Refusal>) -> io::Result<()> {
     match answer {
-        Fixed::Value { value, next } => value_found(rt, value, next)?,
-        Fixed::Ends => refused(rt, answer.refusal())?,
+        Ok(Fixed { value, next }) => value_found(rt, value, next)?,
+        Err(refusal) => refused(rt, refusal)?,
     }
     println!(rt; "")
 }
 
 // What the reader of numbers answers.
-pub fn number(rt: &impl Print, answer: Number) -> io::Result<()> {
+pub fn number(rt: &impl Print, answer: Result<Number, Refusal>) -> io::Result<()> {
     match answer {
-        Number::Value {
-            value,
-            next,
-            shortest,
-        } => {
+        Ok(
+            Number {
+                value,
+                next,
+                shortest,
+            },
+        ) => {
             value_found(rt, value, next)?;
             if !shortest {
                 print!(rt; ", not the shortest form")?;
             }
         }
-        Number::Ends => refused(rt, answer.refusal())?,
+        Err(refusal) => refused(rt, refusal)?,
     }
     println!(rt; "")
 }
 
 // What a writer answers, and the buffer that it leaves.
-pub fn put(rt: &impl Print, answer: Put, buf: &[u8]) -> io::Result<()> {
+pub fn put(rt: &impl Print, answer: Result<usize, Refusal>, buf: &[u8]) -> io::Result<()> {
     match answer {
-        Put::Done { next } => print!(rt; ": length {next}")?,
-        _ => refused(rt, answer.refusal())?,
+        Ok(next) => print!(rt; ": length {next}")?,
+        Err(refusal) => refused(rt, refusal)?,
     }
     print!(rt; "; buffer")?;
     bytes(rt, buf)?;
     println!(rt; "")
 }
 
-// How many bytes numbers take together.
-pub fn length(rt: &impl Print, answer: Length) -> io::Result<()> {
+// How many bytes numbers take together, or a frame that was read.
+pub fn length(rt: &impl Print, answer: Result<usize, Refusal>) -> io::Result<()> {
     match answer {
-        Length::Bytes(total) => print!(rt; ": length {total}")?,
-        Length::TooLarge => refused(rt, answer.refusal())?,
+        Ok(total) => print!(rt; ": length {total}")?,
+        Err(refusal) => refused(rt, refusal)?,
     }
     println!(rt; "")
 }
 
 // What the reader of ACK_FREQUENCY answers.
-pub fn frequency(rt: &impl Print, answer: Frequency) -> io::Result<()> {
+pub fn frequency(rt: &impl Print, answer: Result<Frequency, Refusal>) -> io::Result<()> {
     match answer {
-        Frequency::Frame {
-            sequence,
-            threshold,
-            delay,
-            reordering,
-            used,
-        } => {
+        Ok(
+            Frequency {
+                sequence,
+                threshold,
+                delay,
+                reordering,
+                used,
+            },
+        ) => {
             print!(rt; ": sequence {sequence}, threshold {threshold}, delay {delay}")?;
             print!(rt; ", reordering {reordering}, length {used}")?;
         }
-        _ => refused(rt, answer.refusal())?,
-    }
-    println!(rt; "")
-}
-
-// What the reader of IMMEDIATE_ACK answers.
-pub fn immediate(rt: &impl Print, answer: Immediate) -> io::Result<()> {
-    match answer {
-        Immediate::Frame { used } => print!(rt; ": length {used}")?,
-        _ => refused(rt, answer.refusal())?,
+        Err(refusal) => refused(rt, refusal)?,
     }
     println!(rt; "")
 }
 
 // The counts of an ACK frame of type 03: ECT(0), ECT(1), CE.
-fn counts(rt: &impl Print, tail: Tail) -> io::Result<()> {
+fn counts(rt: &impl Print, tail: Option<Counts>) -> io::Result<()> {
     match tail {
-        Tail::Nothing => Ok(()),
-        Tail::Counts { ect0, ect1, ce } => print!(rt; ", counts {ect0} {ect1} {ce}"),
+        None => Ok(()),
+        Some(Counts { ect0, ect1, ce }) => print!(rt; ", counts {ect0} {ect1} {ce}"),
     }
 }
 
 // What the ACK reader answers, and the slice that it leaves.
-pub fn ack(rt: &impl Print, answer: Ack, slice: &[u64]) -> io::Result<()> {
+pub fn ack(rt: &impl Print, answer: Result<Ack, Refusal>, slice: &[u64]) -> io::Result<()> {
     match answer {
-        Ack::Frame {
-            largest,
-            delay,
-            ranges,
-            used,
-            tail,
-        } => {
+        Ok(
+            Ack {
+                largest,
+                delay,
+                ranges,
+                used,
+                tail,
+            },
+        ) => {
             print!(rt; ": largest {largest}, delay {delay}, ranges {ranges}, length {used}")?;
             counts(rt, tail)?;
         }
-        _ => refused(rt, answer.refusal())?,
+        Err(refusal) => refused(rt, refusal)?,
     }
     print!(rt; "; slice")?;
     numbers(rt, slice)?;
@@ -139,21 +136,23 @@ pub fn ack(rt: &impl Print, answer: Ack, slice: &[u64]) -> io::Result<()> {
 }
 
 // What the check of an ACK frame answers: where its first range stands, and how many come after it.
-pub fn checked(rt: &impl Print, answer: Checked) -> io::Result<()> {
+pub fn checked(rt: &impl Print, answer: Result<Checked, Refusal>) -> io::Result<()> {
     match answer {
-        Checked::Frame {
-            largest,
-            delay,
-            at,
-            count: more,
-            used,
-            tail,
-        } => {
+        Ok(
+            Checked {
+                largest,
+                delay,
+                at,
+                count: more,
+                used,
+                tail,
+            },
+        ) => {
             print!(rt; ": largest {largest}, delay {delay}, first range at {at}")?;
             print!(rt; ", ranges after it {more}, length {used}")?;
             counts(rt, tail)?;
         }
-        _ => refused(rt, answer.refusal())?,
+        Err(refusal) => refused(rt, refusal)?,
     }
     println!(rt; "")
 }
@@ -163,7 +162,7 @@ pub fn verdict(rt: &impl Print, answer: Verdict, agreed: Agreed) -> io::Result<(
     match answer {
         Verdict::Accepted => print!(rt; ": accepted")?,
         Verdict::Stale => print!(rt; ": stale")?,
-        Verdict::Refused(n) => refused(rt, n)?,
+        Verdict::Refused(n) => print!(rt; ": refused {n}")?,
     }
     let delay = agreed.delay.0;
     println!(rt;

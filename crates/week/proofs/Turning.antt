@@ -1,19 +1,19 @@
 -- What a turn leaves at the start of the buffer is what the definitions leave of the bytes that it had.
 -- Assumes nothing.
-use Prim.Native.Nat.{ℕ, zero, suc, ◌+◌, ◌-◌, ◌^◌, ◌≤◌, ◌<◌}
+use Prim.Native.Nat.{ℕ, zero, suc, ◌+◌, ◌-◌, ◌^◌, ◌≤◌, ◌<◌, min}
 use mathlib.Core.Path.{◌≡◌, refl, sym, ap, ◌∙◌}
 use mathlib.Core.Bool.{true, false}
 use mathlib.Core.List.{List, [], ◌∷◌, ◌++◌}
 use native.Mathlib.Omega.{arith}
-use borrow.Author.Tests.{le-leb, ne_eqb}
-use mir.Syntax.{w64}
-use mir.Val.{SFits, of_z}
-use lib.Dec.{eqb}
+use borrow.Author.Tests.{le-leb, lt-ltb}
 use lib.IntN.{ℤ, pos, negsuc}
 use lib.ListN.{length, take, drop, length-take, length-drop, length-append, take-append-drop}
 use lib.Seq.{take_at, take-nil, take-append-add}
 use Rattle.std.proofs.Math.Nat.{min-le_right}
-use Rattle.std.specs.Counts.{clamp_len}
+use Rattle.std.specs.Result.{result_ok}
+use Rattle.std.specs.Counts.{IsPrefixLen, clamp_len}
+use Rattle.std.specs.Prelude.{Option, Some, None, Result, Ok, Err, IfOk}
+use Rattle.std.specs.Option.{unwrap_or}
 use Rattle.wire.specs.Bytes.{pick}
 use Rattle.totals.specs.declared.Taken.{Taken}
 use Rattle.totals.specs.Files.{start, taken, moved}
@@ -21,7 +21,7 @@ use Rattle.page.specs.Page.{printed}
 use Rattle.page.proofs.Cutting.{left-short, page-in-pieces}
 use Rattle.page.specs.Pieces as pieces
 use Rattle.week.specs.declared.Place.{Place}
-use Rattle.week.specs.Turn.{at_end, many, least, standing, came, Took, Read, Turned, Reads, begun, next, pieces_of, HasRead, to_print, Printed}
+use Rattle.week.specs.Turn.{more_of, ended_of, answer_of, last_of, gave, at_end, many, least, standing, came, Took, Read, Turned, Reads, begun, next, pieces_of, HasRead, to_print, Printed}
 
 drop-take : (u e : ℕ) (l : List ℕ) → u ≤ e → drop u (take e l) ≡ take (e - u) (drop u l)
 drop-take zero e l h = let k : e - 0 ≡ e = omega arith in rw k
@@ -70,16 +70,30 @@ pub clamp-most : (got : ℤ) (most : ℕ) → clamp_len got most ≤ most
 clamp-most (pos n) most = min-le_right n most
 clamp-most (negsuc n) most = omega arith
 
--- 0 and nothing else has no bit set
-pub end-by-bits : (got : ℤ) → SFits w64 got → eqb (of_z w64 got) 0 ≡ at_end got
-end-by-bits (pos zero) f = refl
-end-by-bits (pos (suc n)) f = ne_eqb (suc n) 0 (λ e. omega arith)
-end-by-bits (negsuc n) f = ne_eqb (2 ^ 64 - suc n) 0 (λ e. omega (arith, f.sfits))
+-- what the code makes of the answer
+pub clamp-is : (came : Option ℕ) (most : ℕ) → min (unwrap_or came 0) most ≡ clamp_len (answer_of came) most
+clamp-is None most = omega arith
+clamp-is (Some n) most = refl
+
+pub last-more : (came : Option ℕ) → more_of (last_of came) ≡ gave (answer_of came)
+last-more None = refl
+last-more (Some zero) = refl
+last-more (Some (suc n)) = sym (lt-ltb 0 (suc n) (omega arith))
+
+pub last-ended : (came : Option ℕ) → ended_of (last_of came) ≡ at_end (answer_of came)
+last-ended None = refl
+last-ended (Some zero) = refl
+last-ended (Some (suc n)) = refl
 
 -- what a read may answer: -1, or how many bytes it gave, at most as many as it has room for
 abbrev pub Moved : ℕ → ℤ → Type 0
 Moved room (pos n) = n ≤ room
 Moved room (negsuc n) = n ≡ 0
+
+-- what the code has of a read: as many bytes as it gave, which stand at the start of bs, or nothing where it failed
+pub moved-in : {E : Type 0} (r : Result ℕ E) (o : Option ℕ) (bs : List ℕ) (room : ℕ) → o ≡ result_ok r → IfOk r (λ n. IsPrefixLen n bs) → length bs ≤ room → Moved room (answer_of o)
+moved-in (Ok n) o bs room e b l = rw e (omega (arith, b.0))
+moved-in (Err d) o bs room e b l = rw e refl
 
 -- as many bytes as it answered
 came-many : (got : ℤ) (zs : List ℕ) → Moved (length zs) got → length (take (clamp_len got (length zs)) zs) ≡ many got
@@ -107,7 +121,7 @@ turned_by p {r} xs us {ys} {got} h l m t =
 -- the turns up to here, with so many left: the program stands where the definitions stand after the same reads
 pub record Reached (p : Place) (xs : List ℕ) (turns : ℕ) : Type 0 where
   pub reads : List Read
-  pub in_order : Reads reads p.more p.ended
+  pub in_order : Reads reads (more_of p.last) (ended_of p.last)
   pub counted : length reads + turns ≡ 2 ^ 64 - 1
   pub reached : standing p xs ≡ pieces.turns pieces.opened (pieces_of reads)
   pub within : p.left ≤ length xs
@@ -117,12 +131,12 @@ turns_more : (rs : List Read) (s : pieces.Place) (r : Read) → pieces.turns s (
 turns_more [] s r = refl
 turns_more (q ∷ rs) s r = turns_more rs (pieces.turn s q.bytes) r
 
-pub reached-start : (p : Place) (xs : List ℕ) → p.standing ≡ start → p.left ≡ 0 → p.more ≡ true → p.ended ≡ false → Reached p xs (2 ^ 64 - 1)
+pub reached-start : (p : Place) (xs : List ℕ) → p.standing ≡ start → p.left ≡ 0 → more_of p.last ≡ true → ended_of p.last ≡ false → Reached p xs (2 ^ 64 - 1)
 reached-start p xs e f g h =
     record { reads = []; in_order = rw (g, h) begun; counted = omega arith; reached = rw (e, f); within = omega arith; short = omega arith }
 
 -- a turn is taken where the read before it gave bytes
-pub reached-more : {p r : Place} {xs ys : List ℕ} {turns : ℕ} → Reached p xs turns → p.more ≡ true → 0 < turns → Turned p xs r ys → Reached r ys (turns - 1)
+pub reached-more : {p r : Place} {xs ys : List ℕ} {turns : ℕ} → Reached p xs turns → more_of p.last ≡ true → 0 < turns → Turned p xs r ys → Reached r ys (turns - 1)
 reached-more {p} {r} {xs} {ys} {turns} a m h t =
     let rs = a.reads in
     let e : standing r ys ≡ pieces.turn (pieces.turns pieces.opened (pieces_of rs)) t.read.bytes =
@@ -138,7 +152,7 @@ reached-more {p} {r} {xs} {ys} {turns} a m h t =
       short = omega (arith, n, l);
     }
 
-pub has-read : {p : Place} {xs : List ℕ} {turns : ℕ} → Reached p xs turns → (p.more ≡ true → turns ≡ 0) → HasRead p
+pub has-read : {p : Place} {xs : List ℕ} {turns : ℕ} → Reached p xs turns → (more_of p.last ≡ true → turns ≡ 0) → HasRead p
 has-read {p} {xs} a done =
     let n : length (take p.left xs) ≡ p.left = simp length-take (omega (arith, a.within)) in
     record {
@@ -157,9 +171,9 @@ pub printed-by : (p : Place) {us : List ℕ} → HasRead p → us ≡ to_print p
 printed-by p {us} a e =
     record {
       reads = a.reads;
-      more = p.more;
-      ended = p.ended;
+      more = more_of p.last;
+      ended = ended_of p.last;
       in_order = a.in_order;
       no-sooner = a.no-sooner;
-      all = e ∙ ap (λ (l : List ℕ). pick p.ended l []) a.page-is;
+      all = e ∙ ap (λ (l : List ℕ). pick (ended_of p.last) l []) a.page-is;
     }

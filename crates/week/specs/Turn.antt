@@ -1,6 +1,6 @@
 -- What the program does with what it reads: turns of the definitions, up to the end of the file; and what it prints then.
 -- That the bytes and answers spoken of are those of the system's `read` no contract can say.
-use Rattle.std.specs.Prelude.{ℕ, zero, suc, ◌+◌, ◌-◌, ◌^◌, ◌≤◌, ◌≡◌, Bool, true, false, List, [], ◌∷◌, ◌++◌, ℤ, pos, negsuc, length, take, drop}
+use Rattle.std.specs.Prelude.{ℕ, zero, suc, ◌+◌, ◌-◌, ◌^◌, ◌≤◌, ◌≡◌, Bool, true, false, List, [], ◌∷◌, ◌++◌, Option, Some, None, ℤ, pos, negsuc, length, take, drop}
 use Rattle.std.specs.Int.Signed.{lt_z}
 use Rattle.std.specs.Counts.{clamp_len}
 use Rattle.wire.specs.Bytes.{pick}
@@ -8,6 +8,8 @@ use Rattle.totals.specs.Totals.{longest}
 use Rattle.totals.specs.Files.{length_size}
 use Rattle.page.specs.Page.{page, printed}
 use Rattle.page.specs.Pieces as pieces
+use Rattle.week.specs.declared.Last.{Last}
+use Rattle.week.specs.declared.Last.TheVariants.{Gave, Ended, Failed}
 use Rattle.week.specs.declared.Place.{Place}
 
 -- ---- one read
@@ -27,6 +29,28 @@ abbrev pub many : ℤ → ℕ
 many (pos n) = n
 many (negsuc n) = 0
 
+-- what is known of the last read: whether it gave bytes, and whether it gave none because the input has ended
+abbrev pub more_of : Last → Bool
+more_of Gave = true
+more_of Ended = false
+more_of Failed = false
+
+abbrev pub ended_of : Last → Bool
+ended_of Gave = false
+ended_of Ended = true
+ended_of Failed = false
+
+-- what `read` answers where it gives so many bytes, or fails
+abbrev pub answer_of : Option ℕ → ℤ
+answer_of None = negsuc 0
+answer_of (Some came) = pos came
+
+-- and what the read came to
+abbrev pub last_of : Option ℕ → Last
+last_of None = Failed
+last_of (Some zero) = Ended
+last_of (Some (suc n)) = Gave
+
 -- ---- one turn
 
 -- a buffer of so many bytes always has room behind what is left
@@ -45,8 +69,8 @@ came p xs got = take (clamp_len got (length (drop p.left xs))) (drop p.left xs)
 pub record Took (p : Place) (xs : List ℕ) (got : ℤ) (r : Place) (ys : List ℕ) : Type 0 where
   pub turned : standing r ys ≡ pieces.turn (standing p xs) (came p xs got)
   pub within : r.left ≤ length ys
-  pub goes_on : r.more ≡ gave got
-  pub ends : r.ended ≡ at_end got
+  pub goes_on : more_of r.last ≡ gave got
+  pub ends : ended_of r.last ≡ at_end got
 
 -- a read: what it answered, and the bytes that it gave, as many as it answered
 pub record Read : Type 0 where
@@ -59,8 +83,8 @@ pub record Turned (p : Place) (xs : List ℕ) (r : Place) (ys : List ℕ) : Type
   pub read : Read
   pub turned : standing r ys ≡ pieces.turn (standing p xs) read.bytes
   pub within : r.left ≤ length ys
-  pub goes_on : r.more ≡ gave read.got
-  pub ends : r.ended ≡ at_end read.got
+  pub goes_on : more_of r.last ≡ gave read.got
+  pub ends : ended_of r.last ≡ at_end read.got
 
 -- ---- all turns
 
@@ -80,15 +104,15 @@ file reads = pieces.file (pieces_of reads)
 -- it is read on until a read gives no byte, unless there are more reads than a word counts; the page is that of what was read
 pub record HasRead (p : Place) : Type 0 where
   pub reads : List Read
-  pub in_order : Reads reads p.more p.ended
-  pub no-sooner : p.more ≡ true → length reads ≡ 2 ^ 64 - 1
+  pub in_order : Reads reads (more_of p.last) (ended_of p.last)
+  pub no-sooner : more_of p.last ≡ true → length reads ≡ 2 ^ 64 - 1
   pub page-is : printed p.standing p.left ≡ page (file reads)
 
 -- ---- what is printed
 
 -- a page only where the input has ended
 abbrev pub to_print : Place → List ℕ
-to_print p = pick p.ended (printed p.standing p.left) []
+to_print p = pick (ended_of p.last) (printed p.standing p.left) []
 
 -- us is all that the program prints: the page of the file that was read to its end, and nothing where a read failed
 pub record Printed (us : List ℕ) : Type 0 where

@@ -4,13 +4,12 @@
 #![tactic(auto)]
 
 ghost use Rattle.std.specs.Prelude.{◌≡◌, ◌≤◌, ◌<◌, length, take};
-ghost use Rattle.std.specs.Counts.{IsPrefixLen, clamp_len};
+ghost use Rattle.std.specs.Counts.{IsPrefixLen};
 ghost use Rattle.page.specs.Page.{longest_page};
-ghost use Rattle.week.specs.Turn.{least, Took, Turned, HasRead, to_print, Printed};
+ghost use Rattle.week.specs.Turn.{least, last_of, more_of, ended_of, answer_of, Took, Turned, HasRead, to_print, Printed};
 
 use std::io::{Read, Stderr};
 use totals::Standing;
-use wire::Put;
 
 // How many bytes are held at a time: the longest report that is read, with its length, fits in three times.
 const PIECE: usize = 32768;
@@ -24,27 +23,53 @@ struct Place {
     standing: Standing,
     // How many bytes at the start of the buffer are left of what was read.
     left: usize,
-    // Whether the last read gave bytes, so that there may be more.
-    more: bool,
-    // Whether it gave none because the input has ended.
-    ended: bool,
+    last: Last,
 }
 
-// How many bytes came: as many as the read answered, and no more than it had room for.
-fn count(got: isize, room: usize) -> usize
-    ensures { result ≡ clamp_len got room }
+// What the last read came to.
+#[derive(Clone, Copy)]
+enum Last {
+    // It gave bytes, so that there may be more; before the first read too.
+    Gave,
+    // It gave none, because the input has ended.
+    Ended,
+    // It failed.
+    Failed,
+}
+
+// What a read comes to that gave so many bytes, or failed.
+fn last_of(came: Option<usize>) -> Last
+    ensures { result ≡ last_of came }
 {
-    if 0 < got { (got as usize).min(room) } else { 0 }
+    match came {
+        None => Last::Failed,
+        Some(0) => Last::Ended,
+        Some(_) => Last::Gave,
+    }
+}
+
+// Whether there may be more to read.
+fn goes_on(place: Place) -> bool
+    ensures { result ≡ more_of place.last }
+{
+    matches!(place.last, Last::Gave)
+}
+
+// Whether the input was read to its end.
+fn has_ended(place: Place) -> bool
+    ensures { result ≡ ended_of place.last }
+{
+    matches!(place.last, Last::Ended)
 }
 
 // Takes what a read put behind what is left: the reports that are whole. The rest is kept.
-// got is what the read answered: how many bytes, 0 at the end of the input, less than 0 where it failed.
-fn took(place: Place, input: &mut [u8], got: isize) -> Place
+// came is how many bytes the read gave, 0 at the end of the input, and nothing where it failed.
+fn took(place: Place, input: &mut [u8], came: Option<usize>) -> Place
     requires { place.left ≤ length input.old }
-    ensures { Took place input.old got result input.new }
+    ensures { Took place input.old (answer_of came) result input.new }
 {
     let left = place.left;
-    let end = left + count(got, input.len() - left);
+    let end = left + came.unwrap_or(0).min(input.len() - left);
     let before = place.standing;
     let taken = before.piece(&input[..end]);
     let used = taken.used;
@@ -53,8 +78,7 @@ fn took(place: Place, input: &mut [u8], got: isize) -> Place
     Place {
         standing,
         left: end - used,
-        more: 0 < got,
-        ended: got == 0,
+        last: last_of(came),
     }
 }
 
@@ -64,15 +88,13 @@ fn turn<R: Read>(reader: &mut R, place: Place, input: &mut [u8]) -> Place
     ensures { Turned place input.old result input.new }
 {
     let left = place.left;
-    let got = match reader.read(&mut input[left..]) {
-        Ok(came) => came as isize,
-        Err(_) => -1,
-    };
-    took(place, input, got)
+    let came = reader.read(&mut input[left..]).ok();
+    took(place, input, came)
 }
 
 // Reads up to the end of the file, or to a read that fails.
-// A proved loop has to end, and nothing says that an input does: it counts its turns down from a number that no run uses up.
+// A proved loop has to end, and nothing says that an input does: it counts its turns down from a number that no run uses up,
+// and by no range, as the last read ends it too.
 fn read_week<R: Read>(reader: &mut R, input: &mut [u8]) -> Place
     requires { least ≤ length input.old }
     ensures { HasRead result }
@@ -80,11 +102,10 @@ fn read_week<R: Read>(reader: &mut R, input: &mut [u8]) -> Place
     let mut place = Place {
         standing: Standing::start(),
         left: 0,
-        more: true,
-        ended: false,
+        last: Last::Gave,
     };
     let mut turns = u64::MAX;
-    while 0 < turns && place.more {
+    while 0 < turns && goes_on(place) {
         place = turn(reader, place, input);
         turns -= 1;
     }
@@ -96,12 +117,11 @@ fn lay_out(place: Place, output: &mut [u8]) -> usize
     requires { longest_page ≤ length output.old }
     ensures { (take result output.new ≡ to_print place) × IsPrefixLen result output.new }
 {
-    let ended = place.ended;
-    if !ended {
+    if !has_ended(place) {
         return 0;
     }
     let standing = place.standing;
-    let Put::Done { next } = page::put_page(output, standing, place.left) else {
+    let Ok(next) = page::put_page(output, standing, place.left) else {
         return 0;
     };
     next

@@ -8,13 +8,13 @@ use lib.Count.{count_trailing_zeros}
 use lib.ListN.{get_or}
 use Rattle.window.specs.Words.{bit, number_of}
 use Rattle.window.specs.Window.{first_clear}
-use Rattle.window.specs.declared.Missing.TheVariants.{At, Nothing}
+use Rattle.std.specs.Prelude.{Some, None}
 use Rattle.window.proofs.Words.{number_bit}
 use Rattle.window.proofs.Sixteen.{Sixteen}
 use Rattle.window.proofs.Zeros.{run-set, run_end, rest_some, rest-none}
 
 -- a clear bit is found
-pub hit : (n p w : ℕ) → zero < n → bit w p ≡ 0 → first_clear n p w ≡ At p
+pub hit : (n p w : ℕ) → zero < n → bit w p ≡ 0 → first_clear n p w ≡ Some p
 unfolding first_clear
 hit zero p w h e = absurd (not-suc-le-zero h)
 hit (suc n) p w h e = rw (e, first_clear)
@@ -25,7 +25,7 @@ unfolding first_clear
 pass n p w e = rw (e, first_clear)
 
 -- no place is left
-pub stop : (n p w : ℕ) → n ≡ 0 → first_clear n p w ≡ Nothing
+pub stop : (n p w : ℕ) → n ≡ 0 → first_clear n p w ≡ None
 unfolding first_clear
 stop n p w e = ap (λ (m : ℕ). first_clear m p w) e
 
@@ -69,12 +69,12 @@ module _ (ws : List ℕ) (h : Sixteen ws) (p : ℕ) where
   none_left e = rest-none 64 (get_or ws (p / 64) 0) (p % 64) (h.words (p / 64)) e
 
   -- the word has a clear bit among the n places
-  pub word-hit : (n : ℕ) → zeros_at < 64 - p % 64 → zeros_at < n → first_clear n p (number_of ws) ≡ At (p + zeros_at)
+  pub word-hit : (n : ℕ) → zeros_at < 64 - p % 64 → zeros_at < n → first_clear n p (number_of ws) ≡ Some (p + zeros_at)
   word-hit n l i =
       skip n zeros_at p (number_of ws) (λ q j. passed q (omega arith) j) ∙ hit (n - zeros_at) (p + zeros_at) (number_of ws) (omega arith) (found l)
 
   -- it has one, but only past them
-  pub word-past : (n : ℕ) → zeros_at < 64 - p % 64 → n ≤ zeros_at → first_clear n p (number_of ws) ≡ Nothing
+  pub word-past : (n : ℕ) → zeros_at < 64 - p % 64 → n ≤ zeros_at → first_clear n p (number_of ws) ≡ None
   word-past n l i =
       let z : n - zeros_at ≡ 0 = omega arith in
       skip n zeros_at p (number_of ws) (λ q j. passed q (omega arith) j) ∙ stop (n - zeros_at) (p + zeros_at) (number_of ws) z

@@ -11,7 +11,7 @@ use lib.Pow.{pow_mono, pow_pos, shr_le, shr_lt}
 use Rattle.window.specs.Words.{words_of, bit}
 use Rattle.window.specs.Window.{value_of, window_of, is_set, with_bit, first_clear, run_below, none_below}
 use Rattle.window.specs.declared.Window.{Window}
-use Rattle.window.specs.declared.Missing.TheVariants.{At, Nothing}
+use Rattle.std.specs.Prelude.{Some, None}
 use Rattle.window.proofs.Bits.{bit-lt, bit-add, bit-above, bit-low, bit-room, bit_added, bit-added-other, same_bits}
 use Rattle.window.proofs.Words.{number-words, length-words, words-words}
 use Rattle.window.proofs.Sixteen.{Sixteen, bounded, whole, as-window}
@@ -132,14 +132,14 @@ pub record FirstMissing (from to w m : ℕ) : Type 0 where
   pub before : (q : ℕ) → from ≤ q → q < m → is_set w q ≡ true
 
 -- the same of n places from p on, as the search goes
-at-says : (n p w m : ℕ) → first_clear n p w ≡ At m → FirstMissing p (p + n) w m
+some-says : (n p w m : ℕ) → first_clear n p w ≡ Some m → FirstMissing p (p + n) w m
 unfolding first_clear
-at-says zero p w m e = absurd (let z : ◌≡◌ {A = ℕ} 0 1 = cc in omega arith)
-at-says (suc n) p w m e = go (at-says n (suc p) w m) (bit w p) refl
+some-says zero p w m e = absurd (let z : ◌≡◌ {A = ℕ} 0 1 = cc in omega arith)
+some-says (suc n) p w m e = go (some-says n (suc p) w m) (bit w p) refl
   where
-    go : (first_clear n (suc p) w ≡ At m → FirstMissing (suc p) (suc p + n) w m) → (b : ℕ) → bit w p ≡ b → FirstMissing p (p + suc n) w m
+    go : (first_clear n (suc p) w ≡ Some m → FirstMissing (suc p) (suc p + n) w m) → (b : ℕ) → bit w p ≡ b → FirstMissing p (p + suc n) w m
     go rest zero z =
-        let s : At p ≡ At m = sym (hit (suc n) p w (omega arith) z) ∙ e in
+        let s : Some p ≡ Some m = sym (hit (suc n) p w (omega arith) z) ∙ e in
         let i : p ≡ m = cc in record {
           least = omega arith;
           below = omega arith;
@@ -155,23 +155,23 @@ at-says (suc n) p w m e = go (at-says n (suc p) w m) (bit w p) refl
           before = λ q a b. ⊎_elim (λ g. ap (is_set w) (sym g) ∙ ap (λ (x : ℕ). eqb x 1) o) (λ g. r.before q g b) (eq-or-lt_of_le a);
         }
 
-nothing-says : (n p w : ℕ) → first_clear n p w ≡ Nothing → (q : ℕ) → p ≤ q → q < p + n → is_set w q ≡ true
+nothing-says : (n p w : ℕ) → first_clear n p w ≡ None → (q : ℕ) → p ≤ q → q < p + n → is_set w q ≡ true
 unfolding first_clear
 nothing-says zero p w e q a b = absurd (omega arith)
 nothing-says (suc n) p w e q a b = go (nothing-says n (suc p) w) (bit w p) refl
   where
-    go : (first_clear n (suc p) w ≡ Nothing → (q : ℕ) → suc p ≤ q → q < suc p + n → is_set w q ≡ true) → (b : ℕ) → bit w p ≡ b → is_set w q ≡ true
+    go : (first_clear n (suc p) w ≡ None → (q : ℕ) → suc p ≤ q → q < suc p + n → is_set w q ≡ true) → (b : ℕ) → bit w p ≡ b → is_set w q ≡ true
     go rest zero z =
-        let s : At p ≡ Nothing = sym (hit (suc n) p w (omega arith) z) ∙ e in
+        let s : Some p ≡ None = sym (hit (suc n) p w (omega arith) z) ∙ e in
         absurd (let i : ◌≡◌ {A = ℕ} 0 1 = cc in omega arith)
     go rest (suc c) z =
         let o : bit w p ≡ 1 = omega (arith, bit-lt w p) in
         ⊎_elim (λ g. ap (is_set w) (sym g) ∙ ap (λ (x : ℕ). eqb x 1) o) (λ g. rest (sym (pass n p w o) ∙ e) q g (omega arith)) (eq-or-lt_of_le a)
 
--- the answer `At m` says that m is the first place that is not marked
-pub missing-says : (from to w m : ℕ) → first_clear (to - from) from w ≡ At m → FirstMissing from to w m
+-- the answer `Some m` says that m is the first place that is not marked
+pub missing-says : (from to w m : ℕ) → first_clear (to - from) from w ≡ Some m → FirstMissing from to w m
 missing-says from to w m e =
-    let r = at-says (to - from) from w m e in record {
+    let r = some-says (to - from) from w m e in record {
       least = r.least;
       below = omega (arith, r.below, r.least);
       missing = r.missing;
@@ -179,19 +179,19 @@ missing-says from to w m e =
     }
 
 -- and is given where m is
-pub missing-is : (from to w m : ℕ) → FirstMissing from to w m → first_clear (to - from) from w ≡ At m
+pub missing-is : (from to w m : ℕ) → FirstMissing from to w m → first_clear (to - from) from w ≡ Some m
 missing-is from to w m r =
     let i : from + (m - from) ≡ m = omega (arith, r.least) in
     let l : 0 < to - from - (m - from) = omega (arith, r.least, r.below) in
     skip (to - from) (m - from) from w (λ q l. marked-bit w (from + q) (r.before (from + q) (omega arith) (omega (arith, r.least))))
     ∙ ap (λ (p : ℕ). first_clear (to - from - (m - from)) p w) i ∙ hit (to - from - (m - from)) m w l (unmarked-bit w m r.missing)
 
--- the answer `Nothing` says that all places from `from` below `to` are marked
-pub none-missing-says : (from to w : ℕ) → first_clear (to - from) from w ≡ Nothing → (q : ℕ) → from ≤ q → q < to → is_set w q ≡ true
+-- the answer `None` says that all places from `from` below `to` are marked
+pub none-missing-says : (from to w : ℕ) → first_clear (to - from) from w ≡ None → (q : ℕ) → from ≤ q → q < to → is_set w q ≡ true
 none-missing-says from to w e q a b = nothing-says (to - from) from w e q a (omega arith)
 
 -- and is given where they are
-pub none-missing-is : (from to w : ℕ) → ((q : ℕ) → from ≤ q → q < to → is_set w q ≡ true) → first_clear (to - from) from w ≡ Nothing
+pub none-missing-is : (from to w : ℕ) → ((q : ℕ) → from ≤ q → q < to → is_set w q ≡ true) → first_clear (to - from) from w ≡ None
 none-missing-is from to w h =
     let z : to - from - (to - from) ≡ 0 = omega arith in
     skip (to - from) (to - from) from w (λ q l. marked-bit w (from + q) (h (from + q) (omega arith) (omega arith)))

@@ -1,15 +1,14 @@
 -- A number divided by 2 ^ d, word by word: the words move down, or each takes its high bits and the low bits of the next. Assumes nothing.
-use mathlib.Core.Path.{◌≡◌, refl, sym, ap, ap₂, ◌∙◌, subst}
+use mathlib.Core.Path.{◌≡◌, sym, ap, ap₂, ◌∙◌, subst}
 use mathlib.Core.List.{List}
-use mathlib.Core.Logic.{⊎_elim}
-use Prim.Native.Nat.{ℕ, zero, suc, ◌+◌, ◌-◌, ◌*◌, ◌/◌, ◌%◌, ◌^◌, ◌≤◌, ◌<◌}
-use native.Mathlib.Nat.{eq-or-lt_of_le, lt_of_lt_of_le, lt_of_le_of_lt, div-eq_of_lt, mod-eq_of_lt, div-one, add-zero, add_comm, mul_assoc, mul-add-div_right, zero-mul}
+use Prim.Native.Nat.{ℕ, ◌+◌, ◌-◌, ◌*◌, ◌/◌, ◌%◌, ◌^◌, ◌≤◌, ◌<◌}
+use native.Mathlib.Nat.{lt_of_lt_of_le, lt_of_le_of_lt, div-eq_of_lt, mod-eq_of_lt, div-one, add-zero, add_comm, mul_assoc, mul-add-div_right, zero-mul}
 use native.Mathlib.Decide.{dec_lt}
 use native.Mathlib.Omega.{arith}
 use lib.Arith.{digits_div, digits_mod}
 use lib.Pow.{pow-add, pow_pos, pow_mono, shr_le, shr_lt, shr-shr, mod-pow-add, mod-mod-pow, field}
-use lib.ListN.{length, get_or, set, drop, replicate, length-set, get_or-eq_default}
-use lib.Seq.{get_or-drop, get_or-set_same, get_or-set_other, ext_get_or}
+use lib.ListN.{length, get_or, drop, get_or-eq_default}
+use lib.Seq.{get_or-drop, ext_get_or}
 use Rattle.window.specs.Words.{number_of, words_of}
 use Rattle.window.proofs.Words.{Words, number-drop, number_word, number-words, length-words, get_d_words}
 use Rattle.window.proofs.Sixteen.{Sixteen, bounded}
@@ -34,36 +33,6 @@ pub record Moving (ws next : List ℕ) (q i : ℕ) : Type 0 where
   pub long : length next ≡ 16
   pub done : (k : ℕ) → k + q < i → get_or next k 0 ≡ get_or ws (q + k) 0
   pub rest : (k : ℕ) → i ≤ k + q → get_or next k 0 ≡ 0
-
--- at the start
-pub moving-none : (ws : List ℕ) (q : ℕ) → Moving ws (replicate 16 0) q q
-moving-none ws q = record {
-  long = refl;
-  done = λ k l. absurd (omega arith);
-  rest = λ k l. get_or-zeros 16 k;
-}
-  where
-    get_or-zeros : (n k : ℕ) → get_or {A = ℕ} (replicate n 0) k 0 ≡ 0
-    get_or-zeros zero k = refl
-    get_or-zeros (suc n) zero = refl
-    get_or-zeros (suc n) (suc k) = get_or-zeros n k
-
--- one word more
-pub moving-more : (ws next : List ℕ) (q i : ℕ) → Moving ws next q i → q ≤ i → i < 16 → Moving ws (set next (i - q) (get_or ws i 0)) q (i + 1)
-moving-more ws next q i m a b = record {
-  long = length-set next (i - q) (get_or ws i 0) ∙ m.long;
-  done = λ k l. ⊎_elim (here k) (λ g. get_or-set_other next (i - q) k (get_or ws i 0) 0 (λ e. omega arith) ∙ m.done k g) (eq-or-lt_of_le (le k l));
-  rest = λ k l. get_or-set_other next (i - q) k (get_or ws i 0) 0 (λ e. omega arith) ∙ m.rest k (omega arith);
-}
-  where
-    le : (k : ℕ) → k + q < i + 1 → k + q ≤ i
-    le k l = omega arith
-
-    here : (k : ℕ) → k + q ≡ i → get_or (set next (i - q) (get_or ws i 0)) k 0 ≡ get_or ws (q + k) 0
-    here k g =
-        let e : k ≡ i - q = omega arith in
-        let f : i ≡ q + k = omega arith in
-        ap (λ (j : ℕ). get_or (set next (i - q) (get_or ws i 0)) j 0) e ∙ get_or-set_same next (i - q) (get_or ws i 0) 0 (omega (arith, m.long)) ∙ ap (λ (j : ℕ). get_or ws j 0) f
 
 -- and at the end
 pub moving-all : (ws next : List ℕ) (q i : ℕ) → Sixteen ws → Moving ws next q i → 16 ≤ i → next ≡ words_of 16 (number_of ws / 2 ^ (64 * q))

@@ -1,10 +1,8 @@
 -- The window's meaning: its sixteen words are one number W below 2 ^ 1024, and a place is marked where W's bit there is 1. Assumes nothing.
-use Rattle.std.specs.Prelude.{Bool, true, false, List, ℕ, zero, suc, ◌+◌, ◌-◌, ◌*◌, ◌/◌, ◌%◌, ◌^◌, eqb}
+use Rattle.std.specs.Prelude.{Bool, true, false, List, ℕ, zero, suc, ◌+◌, ◌-◌, ◌*◌, ◌/◌, ◌%◌, ◌^◌, eqb, Option, Some, None}
 use Rattle.std.specs.Bool.{beq}
 use Rattle.window.specs.Words.{number_of, words_of, words_in, bit}
 use Rattle.window.specs.declared.Window.{Window}
-use Rattle.window.specs.declared.Missing.{Missing}
-use Rattle.window.specs.declared.Missing.TheVariants.{At, Nothing}
 
 -- How many places a window has.
 abbrev pub places : ℕ
@@ -31,9 +29,9 @@ abbrev pub with_bit : ℕ → ℕ → ℕ
 with_bit w p = w + (1 - bit w p) * 2 ^ p
 
 -- The first place that is not marked, among n places from p on.
-unfoldable pub first_clear : ℕ → ℕ → ℕ → Missing
-first_clear zero p w = Nothing
-first_clear (suc n) p w = elim (bit w p) [ zero ↦ At p | suc b ↦ first_clear n (suc p) w ]
+unfoldable pub first_clear : ℕ → ℕ → ℕ → Option ℕ
+first_clear zero p w = None
+first_clear (suc n) p w = elim (bit w p) [ zero ↦ Some p | suc b ↦ first_clear n (suc p) w ]
 
 -- How many places directly below place n have the mark b.
 unfoldable pub run_below : Bool → ℕ → ℕ → ℕ

@@ -21,13 +21,6 @@ pub struct Window {
     pub words: [u64; 16],
 }
 
-// The answer of a search for a missing number: its place, or that none is missing.
-#[derive(Clone, Copy)]
-pub enum Missing {
-    At(u64),
-    Nothing,
-}
-
 // The word with a 1 at each place whose mark is not `marked`. That it was a word is said for callers that read it behind a reference.
 fn other_than(marked: bool, word: u64) -> u64
     ensures { (result ≡ other_than marked word) × (word < 2 ^ 64) }
@@ -41,6 +34,7 @@ fn run_within(words: &[u64; 16], n: u64, marked: bool) -> u64
     ensures { result ≡ run_below marked n (lent_value words.now) }
 {
     let mut left = n;
+    // A while: the first step is what is left of a word.
     while 0 < left {
         let i = ((left - 1) / 64) as usize;
         let k = (left - 1) % 64;
@@ -50,7 +44,7 @@ fn run_within(words: &[u64; 16], n: u64, marked: bool) -> u64
         if rest != 0 {
             return n - left + u64::leading_zeros(rest) as u64;
         }
-        left = left - (k + 1);
+        left -= k + 1;
     }
     n
 }
@@ -70,6 +64,7 @@ pub fn run_below(words: &[u64; 16], n: u64, marked: bool) -> u64
 }
 
 // Says that an array of words is sixteen words. It is for proofs, of what lies behind a reference and was copied out; no code is made of it.
+// Behind a reference only the length is told: without this call the proofs did not close.
 fn told_words(words: [u64; 16])
     ensures { words_in 16 words ≡ words }
 {}
@@ -116,6 +111,7 @@ fn words_down(words: &mut [u64; 16], q: usize)
     let own = *words;
     told_words(own);
     let mut next = [0u64; 16];
+    // By index, since q may be above 16: a slice from q on would have to be cut first.
     for i in q..16 {
         next[i - q] = own[i];
     }
@@ -164,19 +160,17 @@ pub fn advance(words: &mut [u64; 16], d: u64)
     bits_down(words, s);
 }
 
-// The smallest place from `from` on and below `to` that is not marked.
-pub fn first_missing(words: &[u64; 16], from: u64, to: u64) -> Missing
+// The smallest place from `from` on and below `to` that is not marked, if any.
+pub fn first_missing(words: &[u64; 16], from: u64, to: u64) -> Option<u64>
     ensures { result ≡ first_clear (to - from) from (number_of words.now) }
 {
     let own = *words;
     told_words(own);
-    if to <= from {
-        return Missing::Nothing;
-    }
     let mut at = from;
+    // A while: the first step is what is left of a word.
     while at < to {
         if PLACES <= at {
-            return Missing::At(at);
+            return Some(at);
         }
         let i = (at / 64) as usize;
         let k = at % 64;
@@ -185,13 +179,13 @@ pub fn first_missing(words: &[u64; 16], from: u64, to: u64) -> Missing
         if rest != 0 {
             let place = at + u64::trailing_zeros(rest) as u64;
             if place < to {
-                return Missing::At(place);
+                return Some(place);
             }
-            return Missing::Nothing;
+            return None;
         }
-        at = at + (64 - k);
+        at += 64 - k;
     }
-    Missing::Nothing
+    None
 }
 
 // Whether no place below place p is marked: the run of places that are not has them all.

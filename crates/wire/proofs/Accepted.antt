@@ -11,35 +11,31 @@ use lib.Dec.{leb}
 use lib.Pow.{suc_ones, pow_pos, pow-lt}
 use lib.ListN.{length, get_or, take, drop, length-take, length-drop}
 use lib.Seq.{get_or-drop, get_or-take}
+use Rattle.std.specs.Prelude.{Result, Ok, Err}
 use Rattle.wire.specs.Bytes.{pick, be, Octets}
-use Rattle.wire.specs.Fields.{read_fixed}
+use Rattle.wire.specs.Fields.{read_fixed, found}
 use Rattle.wire.specs.Numbers.{len_of, room_of, limit, code_of, width_of, form, encode, is_shortest, in_form, read_form, read_number}
 use Rattle.wire.specs.Exactly.{FormsTold}
 use Rattle.wire.specs.declared.Fixed.{Fixed}
-use Rattle.wire.specs.declared.Fixed.TheVariants.{Value as FixedValue, Ends as FixedEnds}
-use Rattle.wire.specs.declared.Number.TheVariants.{Value, Ends}
+use Rattle.wire.specs.declared.Refusal.{Refusal}
+use Rattle.wire.specs.declared.Refusal.TheVariants.{Ends}
 use Rattle.wire.proofs.Bytes.{be-above, digits-be, octets-part}
+use Rattle.wire.proofs.Reading.{whole, whole-same, found-same}
 use Rattle.wire.proofs.Lengths.{split, room-le, room-pos, code-least, small-code, width-found, width-least}
 
-never : {A : Type 0} (v next : ℕ) → FixedEnds ≡ FixedValue v next → A
-never v next e = let z : ◌≡◌ {A = ℕ} 0 1 = cc in absurd (omega arith)
-
-never-number : {A : Type 0} (v next : ℕ) (b : Bool) → Ends ≡ Value v next b → A
-never-number v next b e = let z : ◌≡◌ {A = ℕ} 0 1 = cc in absurd (omega arith)
-
 -- what reading a field found
-pub fixed-is : (len : ℕ) (s : List ℕ) (at v next : ℕ) → read_fixed len s at ≡ FixedValue v next
+pub fixed-is : (len : ℕ) (s : List ℕ) (at v next : ℕ) → read_fixed len s at ≡ whole v next
     → (next ≡ at + len) × (next ≤ length s) × (v ≡ be 0 (take len (drop at s)))
 unfolding read_fixed
 fixed-is len s at v next e = go (leb (at + len) (length s)) refl e
   where
-    go : (b : Bool) → leb (at + len) (length s) ≡ b → pick b (FixedValue (be 0 (take len (drop at s))) (at + len)) FixedEnds ≡ FixedValue v next
+    go : (b : Bool) → leb (at + len) (length s) ≡ b → pick b (whole (be 0 (take len (drop at s))) (at + len)) (Err Ends) ≡ whole v next
         → (next ≡ at + len) × (next ≤ length s) × (v ≡ be 0 (take len (drop at s)))
     go true t e =
-        let f : next ≡ at + len = cc in
+        let m = whole-same e in
         let l : at + len ≤ length s = leb-true (at + len) (length s) t in
-        (f, omega arith, cc)
-    go false t e = never v next e
+        (sym m.1, omega arith, sym m.0)
+    go false t e = absurd (cc)
 
 -- what reading a number found: k is its code
 record Found (s : List ℕ) (at v next : ℕ) (b : Bool) (k : ℕ) : Type 0 where
@@ -48,32 +44,35 @@ record Found (s : List ℕ) (at v next : ℕ) (b : Bool) (k : ℕ) : Type 0 wher
   value : v ≡ be 0 (take (len_of k) (drop at s)) % room_of k
   told : b ≡ is_shortest k v
 
-number_is : (s : List ℕ) (at v next : ℕ) (b : Bool) → read_number s at ≡ Value v next b → Found s at v next b (get_or s at 0 / 64)
+number_is : (s : List ℕ) (at v next : ℕ) (b : Bool) → read_number s at ≡ found v next b → Found s at v next b (get_or s at 0 / 64)
 unfolding read_number read_form
 number_is s at v next b e = go (read_fixed (len_of k) s at) refl e
   where
     k : ℕ
     k = get_or s at 0 / 64
 
-    go : (n : Fixed) → read_fixed (len_of k) s at ≡ n → in_form k n ≡ Value v next b → Found s at v next b k
-    go (FixedValue w m) t e =
+    go : (n : Result Fixed Refusal) → read_fixed (len_of k) s at ≡ n → in_form k n ≡ found v next b → Found s at v next b k
+    go (Ok field) t e =
+        let w : ℕ = field.value in
+        let m : ℕ = field.next in
         let f = fixed-is (len_of k) s at w m t in
-        let p : m ≡ next = cc in
-        let q : w % room_of k ≡ v = cc in
-        let r : is_shortest k (w % room_of k) ≡ b = cc in
+        let same = found-same e in
+        let q : w % room_of k ≡ v = same.0 in
+        let p : m ≡ next = same.1 in
+        let r : is_shortest k (w % room_of k) ≡ b = same.2 in
         record {
           place = sym p ∙ f.0;
           within = rw (← p) f.1;
           value = sym q ∙ ap (λ (n : ℕ). n % room_of k) f.2;
           told = sym r ∙ ap (is_shortest k) q;
         }
-    go FixedEnds t e = never-number v next b e
+    go (Err refusal) t e = absurd (cc)
 
 -- two codes of the same length are the same
 same_code : (i j : ℕ) → i ≤ j → len_of i ≡ len_of j → i ≡ j
 same_code i j h e = split j i (λ l. omega arith) (λ l. omega (arith, pow-lt l))
 
-module _ (s : List ℕ) (at v next : ℕ) {b : Bool} (o : Octets s) (e : read_number s at ≡ Value v next b) where
+module _ (s : List ℕ) (at v next : ℕ) {b : Bool} (o : Octets s) (e : read_number s at ≡ found v next b) where
   code_below : get_or s at 0 / 64 < 4
   code_below = omega (arith, o at)
 
@@ -108,7 +107,7 @@ code-above (b ∷ bs) t h l =
     rw (mul_comm 64 (256 ^ t), ← div-div-eq-div-mul (be (0 * 256 + b) bs) (256 ^ t) 64, ← e, be-above bs (0 * 256 + b) (λ i. h (suc i))) (omega arith)
 
 -- a number in its shortest form takes as many bytes as the writer's
-pub shortest-place : (s : List ℕ) (at v next : ℕ) → read_number s at ≡ Value v next true → v ≤ limit → next ≡ at + width_of v
+pub shortest-place : (s : List ℕ) (at v next : ℕ) → read_number s at ≡ found v next true → v ≤ limit → next ≡ at + width_of v
 shortest-place s at v next e l =
     let n = number_is s at v next true e in
     let c : code_of v ≡ get_or s at 0 / 64 = eqb-true (code_of v) (get_or s at 0 / 64) (sym n.told) in
@@ -118,7 +117,7 @@ pub forms-told : FormsTold
 forms-told s at v next b o e = (λ t. shortest-place s at v next (rw t at e) (accepted-small s at v next o e), as-long-shortest s at v next o e)
 
 -- and is what the writer writes
-pub accepted-shortest : (s : List ℕ) (at v next : ℕ) → Octets s → read_number s at ≡ Value v next true → take (width_of v) (drop at s) ≡ encode v
+pub accepted-shortest : (s : List ℕ) (at v next : ℕ) → Octets s → read_number s at ≡ found v next true → take (width_of v) (drop at s) ≡ encode v
 unfolding encode form
 accepted-shortest s at v next o e =
     let k : ℕ = get_or s at 0 / 64 in

@@ -93,12 +93,8 @@ width-pos v h = rw (width-found v (small-code v h)) (pow_pos (code_of v))
 pub width-le : (v : ℕ) → width_of v ≤ 8
 width-le v = split 4 (code_of v) (λ h. omega (arith, width-none v h)) (λ h. omega (arith, width-found v h, len-le (code_of v) h))
 
--- a width of 0 says that the number is above the limit
-pub width-zero : (v : ℕ) → width_of v ≡ 0 → limit < v
-width-zero v e = split v limit (λ h. omega (arith, width-pos v h)) (λ h. h)
-
-pub width_small : (v : ℕ) → (width_of v ≡ 0 → ⊥) → v ≤ limit
-width_small v f = split 4 (code_of v) (λ h. absurd (f (width-none v h))) (λ h. code-small v h)
+pub width-large : (v : ℕ) → limit < v → width_of v ≡ 0
+width-large v h = width-none v (split 4 (code_of v) (λ q. q) (λ q. absurd (omega (arith, code-small v q))))
 
 -- the length is the least that holds the number
 pub width-least : (v j : ℕ) → j < 4 → v ≤ largest_of j → width_of v ≤ len_of j

@@ -1,11 +1,13 @@
 -- Only one: two results that meet the contract of a public call, as its source states it, are equal, and so are the lent buffers that they leave.
 -- Assumes nothing.
 use Prim.Native.Nat.{ℕ}
-use mathlib.Core.Path.{◌≡◌, sym, ◌∙◌}
+use mathlib.Core.Path.{◌≡◌, refl, sym, ◌∙◌}
 use mathlib.Core.List.{List}
 use borrow.Fn.Kinds.{Out, ParamKind, ResultKind, Dens, res_t, ended_of}
 use contract.Lifetimes.{Lfts}
 use denote.Triple.Clauses.{AtExit}
+use denote.Param.Laws.{Laws}
+use denote.RattleType.{RattleType}
 use Rattle.wire.proofs.numbers.read_number.Reads as read_number
 use Rattle.wire.proofs.numbers.read_number.Kinds as read-number-kinds
 use Rattle.wire.proofs.numbers.width.Reads as width
@@ -18,14 +20,10 @@ use Rattle.wire.proofs.fields.read_fixed8.Reads as read-fixed8
 use Rattle.wire.proofs.fields.read_fixed8.Kinds as read-fixed8-kinds
 use Rattle.wire.proofs.several.length_of.Reads as length-of
 use Rattle.wire.proofs.several.length_of.Kinds as length-of-kinds
-use Rattle.wire.proofs.Number.refusal.Reads as number-refusal
-use Rattle.wire.proofs.Number.refusal.Kinds as number-refusal-kinds
-use Rattle.wire.proofs.Fixed.refusal.Reads as fixed-refusal
-use Rattle.wire.proofs.Fixed.refusal.Kinds as fixed-refusal-kinds
-use Rattle.wire.proofs.Put.refusal.Reads as put-refusal
-use Rattle.wire.proofs.Put.refusal.Kinds as put-refusal-kinds
-use Rattle.wire.proofs.Length.refusal.Reads as length-refusal
-use Rattle.wire.proofs.Length.refusal.Kinds as length-refusal-kinds
+use Rattle.wire.proofs.Refusal.number.Reads as refusal-number
+use Rattle.wire.proofs.Refusal.number.Kinds as refusal-number-kinds
+use Rattle.wire.proofs.refusals.refusal_number.Reads as answer-number
+use Rattle.wire.proofs.refusals.refusal_number.Kinds as answer-number-kinds
 use Rattle.wire.proofs.numbers.put_number.Reads as put-number
 use Rattle.wire.proofs.numbers.put_number.Kinds as put-number-kinds
 use Rattle.wire.proofs.several.put_numbers.Reads as put-numbers
@@ -70,17 +68,11 @@ read-fixed8-one κs given x y s t p q = p ∙ sym q
 pub length-of-one : OneAnswer 1 length-of-kinds.ps length-of-kinds.r length-of.Post
 length-of-one κs given x y s t p q = p ∙ sym q
 
-pub number-refusal-one : OneAnswer 0 number-refusal-kinds.ps number-refusal-kinds.r number-refusal.Post
-number-refusal-one κs given x y s t p q = p ∙ sym q
+pub refusal-number-one : OneAnswer 0 refusal-number-kinds.ps refusal-number-kinds.r refusal-number.Post
+refusal-number-one κs given x y s t p q = p ∙ sym q
 
-pub fixed-refusal-one : OneAnswer 0 fixed-refusal-kinds.ps fixed-refusal-kinds.r fixed-refusal.Post
-fixed-refusal-one κs given x y s t p q = p ∙ sym q
-
-pub put-refusal-one : OneAnswer 0 put-refusal-kinds.ps put-refusal-kinds.r put-refusal.Post
-put-refusal-one κs given x y s t p q = p ∙ sym q
-
-pub length-refusal-one : OneAnswer 0 length-refusal-kinds.ps length-refusal-kinds.r length-refusal.Post
-length-refusal-one κs given x y s t p q = p ∙ sym q
+pub answer-number-one : (T : RattleType) (L : Laws T) → OneAnswer 2 (answer-number-kinds.ps T L) (answer-number-kinds.r T L) (answer-number.Post T L)
+answer-number-one T L κs given x y s t p q = p ∙ sym q
 
 pub put-number-one : OneBuffer 1 put-number-kinds.ps put-number-kinds.r (λ κs s. s.0.now) put-number.Post
 put-number-one κs given x y s t p q = (p.0 ∙ sym q.0, p.1 ∙ sym q.1)

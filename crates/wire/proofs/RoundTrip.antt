@@ -12,19 +12,20 @@ use lib.Arith.{digits_lt}
 use lib.Pow.{suc_ones, pow_pos}
 use lib.ListN.{length, get_or, take, drop, length-append, get_or-append}
 use lib.Seq.{drop_at, take_at, get_or-drop, length-take-le}
+use Rattle.std.specs.Prelude.{Result}
 use Rattle.wire.specs.Bytes.{be}
-use Rattle.wire.specs.Fields.{read_fixed, field, fixed, written}
+use Rattle.wire.specs.Fields.{read_fixed, found, field, fixed, written}
 use Rattle.wire.specs.Numbers.{len_of, room_of, limit, code_of, width_of, form, encode, is_shortest, read_form, read_number, put_bytes}
-use Rattle.wire.specs.declared.Fixed.TheVariants.{Value as FixedValue}
 use Rattle.wire.specs.Exactly.{FieldsAccept}
 use Rattle.wire.specs.declared.Number.{Number}
-use Rattle.wire.specs.declared.Number.TheVariants.{Value}
+use Rattle.wire.specs.declared.Refusal.{Refusal}
 use Rattle.wire.proofs.Bytes.{be-digits, length-fixed, digits-head}
 use Rattle.wire.proofs.Lengths.{code_fits, small-code, width-found}
+use Rattle.wire.proofs.Reading.{whole as whole_field}
 use Rattle.wire.proofs.Writing.{placed-yes, one-splice}
 
 -- a field of len bytes, with anything before and after it, reads as what it holds
-pub read-fixed : (len n : ℕ) (p q : List ℕ) (at : ℕ) → length p ≡ at → n < 256 ^ len → FixedValue n (at + len) ≡ read_fixed len (p ++ (fixed len n ++ q)) at
+pub read-fixed : (len n : ℕ) (p q : List ℕ) (at : ℕ) → length p ≡ at → n < 256 ^ len → whole_field n (at + len) ≡ read_fixed len (p ++ (fixed len n ++ q)) at
 unfolding read_fixed
 read-fixed len n p q at e h =
     let s : List ℕ = p ++ (fixed len n ++ q) in
@@ -35,7 +36,7 @@ read-fixed len n p q at e h =
     rw (le-leb (at + len) (length s) l, t, b)
 
 -- a field that was written is read back
-pub fixed_back : (xs : List ℕ) (at len v : ℕ) → v < 256 ^ len → at + len ≤ length xs → FixedValue v (at + len) ≡ read_fixed len (written xs at (fixed len v)) at
+pub fixed_back : (xs : List ℕ) (at len v : ℕ) → v < 256 ^ len → at + len ≤ length xs → whole_field v (at + len) ≡ read_fixed len (written xs at (fixed len v)) at
 fixed_back xs at len v h l =
     rw (← (placed-yes xs at (fixed len v) (omega (arith, length-fixed len v))).1)
     (read-fixed len v (take at xs) (drop (at + length (fixed len v)) xs) at (length-take-le at xs (omega arith)) h)
@@ -59,7 +60,7 @@ module _ (k v : ℕ) (h : k < 4) (l : v < room_of k) where
   form-whole = subst (λ (n : ℕ). k * room_of k + v < 256 ^ n) (suc_ones k) (whole (2 ^ k - 1) k v h l)
 
   -- v in the form of code k, with anything before and after it, reads as v, and whether the form is the shortest is told
-  pub read-form : (p q : List ℕ) (at : ℕ) → length p ≡ at → Value v (at + len_of k) (is_shortest k v) ≡ read_number (p ++ (form k v ++ q)) at
+  pub read-form : (p q : List ℕ) (at : ℕ) → length p ≡ at → found v (at + len_of k) (is_shortest k v) ≡ read_number (p ++ (form k v ++ q)) at
   unfolding read_number read_form form
   read-form p q at e =
       let s : List ℕ = p ++ (form k v ++ q) in
@@ -72,17 +73,17 @@ module _ (k v : ℕ) (h : k < 4) (l : v < room_of k) where
 
 pub fields-accept : FieldsAccept
 fields-accept R k v h l before behind refused f =
-    ap (λ (n : Number). field n refused f) (sym (read-form k v h l before behind (length before) refl))
+    ap (λ (n : Result Number Refusal). field n refused f) (sym (read-form k v h l before behind (length before) refl))
 
 -- the shortest form of v, anywhere in s
-pub read-encoded : (s p q : List ℕ) (v at : ℕ) → v ≤ limit → s ≡ p ++ (encode v ++ q) → length p ≡ at → Value v (at + width_of v) true ≡ read_number s at
+pub read-encoded : (s p q : List ℕ) (v at : ℕ) → v ≤ limit → s ≡ p ++ (encode v ++ q) → length p ≡ at → found v (at + width_of v) true ≡ read_number s at
 unfolding encode
 read-encoded s p q v at h e l =
     let k : code_of v < 4 = small-code v h in
     rw (e, width-found v k)
-    (ap (Value v (at + len_of (code_of v))) (sym (eq-eqb (code_of v) (code_of v) refl)) ∙ read-form (code_of v) v k (code_fits v k) p q at l)
+    (ap (found v (at + len_of (code_of v))) (sym (eq-eqb (code_of v) (code_of v) refl)) ∙ read-form (code_of v) v k (code_fits v k) p q at l)
 
 -- what `put_number` wrote, `read_number` reads
-pub read_back : (xs : List ℕ) (at v : ℕ) → v ≤ limit → at + width_of v ≤ length xs → Value v (at + width_of v) true ≡ read_number (put_bytes xs at (v ∷ [])) at
+pub read_back : (xs : List ℕ) (at v : ℕ) → v ≤ limit → at + width_of v ≤ length xs → found v (at + width_of v) true ≡ read_number (put_bytes xs at (v ∷ [])) at
 read_back xs at v h l =
     read-encoded (put_bytes xs at (v ∷ [])) (take at xs) (drop (at + length (encode v)) xs) v at h (one-splice xs at v h l) (length-take-le at xs (omega arith))

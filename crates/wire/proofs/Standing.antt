@@ -9,14 +9,14 @@ use native.Mathlib.Omega.{arith}
 use lib.Dec.{leb}
 use lib.ListN.{length, take, drop, length-append, take-append-drop}
 use lib.Seq.{take-add, drop-drop}
+use Rattle.std.specs.Prelude.{Result, Ok, Err}
 use Rattle.wire.specs.Bytes.{pick, splice, Octets}
-use Rattle.wire.specs.Fields.{placed, after}
+use Rattle.wire.specs.Fields.{found, placed, after}
 use Rattle.wire.specs.Numbers.{limit, width_of, encode, encode_all, all_small, read_number, put_answer, put_bytes}
 use Rattle.wire.specs.Exactly.{Small}
 use Rattle.wire.specs.Standing.{Stand, none, one, StandShortest, no_more, short}
-use Rattle.wire.specs.declared.Number.TheVariants.{Value}
-use Rattle.wire.specs.declared.Put.{Put}
-use Rattle.wire.specs.declared.Put.TheVariants.{Done, TooLarge, NoRoom}
+use Rattle.wire.specs.declared.Refusal.{Refusal}
+use Rattle.wire.specs.declared.Refusal.TheVariants.{TooLarge, NoRoom}
 use Rattle.wire.proofs.Small.{all_small_lem}
 use Rattle.wire.proofs.Writing.{length-encode}
 use Rattle.wire.proofs.RoundTrip.{read-encoded}
@@ -29,11 +29,7 @@ stand-append none t = t
 stand-append (one e r) t = one e (stand-append r t)
 
 -- one number more
-pub stand-last : {s : List ℕ} {at mid v next : ℕ} {shortest : Bool} {vs : List ℕ}
-    → Stand s at vs mid → read_number s mid ≡ Value v next shortest → Stand s at (vs ++ (v ∷ [])) next
-stand-last t e = stand-append t (one e none)
-
-pub short-last : {s : List ℕ} {at mid v next : ℕ} {vs : List ℕ} → StandShortest s at vs mid → read_number s mid ≡ Value v next true → StandShortest s at (vs ++ (v ∷ [])) next
+pub short-last : {s : List ℕ} {at mid v next : ℕ} {vs : List ℕ} → StandShortest s at vs mid → read_number s mid ≡ found v next true → StandShortest s at (vs ++ (v ∷ [])) next
 short-last no_more e = short e no_more
 short-last (short r t) e = short r (short-last t e)
 
@@ -60,17 +56,17 @@ pub encoded-stand : (vs s p tl : List ℕ) (at : ℕ) → Small vs → s ≡ p +
 encoded-stand vs s p tl at f e l = short-stands (encoded-short vs s p tl at f e l)
 
 -- the numbers that an accepted write wrote, and what it left
-pub put-done : (xs : List ℕ) (at : ℕ) (vs : List ℕ) (next : ℕ) → put_answer xs at vs ≡ Done next
+pub put-done : (xs : List ℕ) (at : ℕ) (vs : List ℕ) (next : ℕ) → put_answer xs at vs ≡ Ok next
     → Small vs × (next ≡ at + length (encode_all vs)) × (put_bytes xs at vs ≡ splice xs at (encode_all vs))
 unfolding put_answer put_bytes placed after
 put-done xs at vs next e = go (all_small vs) refl (leb (at + length (encode_all vs)) (length xs)) refl (all_small_lem vs).0 e
   where
     go : (a : Bool) → all_small vs ≡ a → (b : Bool) → leb (at + length (encode_all vs)) (length xs) ≡ b → (all_small vs ≡ true → Small vs)
-        → pick a (pick b (Done (at + length (encode_all vs))) NoRoom) TooLarge ≡ Done next
+        → pick a (pick b (Ok (at + length (encode_all vs))) (Err NoRoom)) (Err TooLarge) ≡ Ok next
         → Small vs × (next ≡ at + length (encode_all vs)) × (put_bytes xs at vs ≡ splice xs at (encode_all vs))
     go true s true l fit e = (fit s, cc, rw (s, l))
-    go true s false l fit e = let z : ◌≡◌ {A = ℕ} 0 1 = cc in absurd (omega arith)
-    go false s b l fit e = let z : ◌≡◌ {A = ℕ} 0 1 = cc in absurd (omega arith)
+    go true s false l fit e = absurd (cc)
+    go false s b l fit e = absurd (cc)
 
 -- ---- in shortest form, so they are written so
 
@@ -126,7 +122,6 @@ module _ (s : List ℕ) (o : Octets s) where
             ∙ rw (e, zero-add) (take-append-drop (length (encode_all vs)) s)),
       )
     where
-      kept : (a : Put) → splice s 0 (encode_all vs) ≡ s → after a s 0 (encode_all vs) ≡ s
-      kept (Done next) h = h
-      kept TooLarge h = refl
-      kept NoRoom h = refl
+      kept : (a : Result ℕ Refusal) → splice s 0 (encode_all vs) ≡ s → after a s 0 (encode_all vs) ≡ s
+      kept (Ok next) h = h
+      kept (Err refusal) h = refl

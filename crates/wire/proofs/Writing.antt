@@ -11,32 +11,33 @@ use lib.Arith.{digits_lt}
 use lib.ListN.{length, get_or, take, drop, length-take, length-drop}
 use lib.Seq.{drop-drop, drop-cons}
 use native.Mathlib.Numerals.{add-one}
+use Rattle.std.specs.Prelude.{Ok, Err}
 use Rattle.wire.specs.Bytes.{pick, splice}
 use Rattle.wire.specs.Fields.{fixed, placed, after, written}
-use Rattle.wire.specs.declared.Put.TheVariants.{Done, TooLarge, NoRoom}
-use Rattle.wire.specs.declared.Length.TheVariants.{Bytes, TooLarge as OneTooLarge}
+use Rattle.wire.specs.declared.Refusal.{Refusal}
+use Rattle.wire.specs.declared.Refusal.TheVariants.{TooLarge, NoRoom}
 use Rattle.wire.specs.Numbers.{len_of, room_of, largest_of, limit, code_of, width_of, form, encode, encode_all, all_small, length_of, put_answer, put_bytes}
 use Rattle.wire.proofs.Bytes.{length-fixed, splice-splice}
-use Rattle.wire.proofs.Lengths.{room_of_lem, room-le, code_fits, code-small, code-large, small-code, width-found}
+use Rattle.wire.proofs.Lengths.{room_of_lem, room-le, code_fits, code-small, small-code, width-found}
 
-pub placed-no : (xs : List ℕ) (at : ℕ) (ys : List ℕ) → length xs < at + length ys → (NoRoom ≡ placed xs at ys) × (xs ≡ written xs at ys)
+pub placed-no : (xs : List ℕ) (at : ℕ) (ys : List ℕ) → length xs < at + length ys → (Err NoRoom ≡ placed xs at ys) × (xs ≡ written xs at ys)
 unfolding placed after
 placed-no xs at ys h = rw (lt-leb (at + length ys) (length xs) h) (refl, refl)
 
 pub placed-yes : (xs : List ℕ) (at : ℕ) (ys : List ℕ) → at + length ys ≤ length xs
-    → (Done (at + length ys) ≡ placed xs at ys) × (splice xs at ys ≡ written xs at ys)
+    → (Ok (at + length ys) ≡ placed xs at ys) × (splice xs at ys ≡ written xs at ys)
 unfolding placed after
 placed-yes xs at ys h = rw (le-leb (at + length ys) (length xs) h) (refl, refl)
 
 -- ---- a field of len bytes
 
 module _ (xs : List ℕ) (at len v : ℕ) where
-  pub fixed_no : length xs < at + len → (NoRoom ≡ placed xs at (fixed len v)) × (xs ≡ written xs at (fixed len v))
+  pub fixed_no : length xs < at + len → (Err NoRoom ≡ placed xs at (fixed len v)) × (xs ≡ written xs at (fixed len v))
   fixed_no h = placed-no xs at (fixed len v) (omega (arith, length-fixed len v))
 
   -- ys is what the callee left of the part that it was lent
   pub fixed-yes : (ys : List ℕ) → at + len ≤ length xs → ys ≡ fixed (length (take (at + len - at) (drop at xs))) v
-      → (Done (at + len) ≡ placed xs at (fixed len v)) × (take at xs ++ (ys ++ drop (at + len - at) (drop at xs)) ≡ written xs at (fixed len v))
+      → (Ok (at + len) ≡ placed xs at (fixed len v)) × (take at xs ++ (ys ++ drop (at + len - at) (drop at xs)) ≡ written xs at (fixed len v))
   fixed-yes ys h d =
       let m : at + len - at ≡ len = omega arith in
       let n : length (take len (drop at xs)) ≡ len = simp (length-take, length-drop) (omega arith) in
@@ -93,40 +94,41 @@ module _ (vs : List ℕ) (i : ℕ) (h : i < length vs) where
 
 -- ---- what the length of numbers says
 
-pub length-large : (vs : List ℕ) → OneTooLarge ≡ length_of vs → all_small vs ≡ false
-unfolding length_of
-length-large vs e = go (all_small vs) e
-  where
-    go : (b : Bool) → OneTooLarge ≡ pick b (Bytes (length (encode_all vs))) OneTooLarge → b ≡ false
-    go true e = cc
-    go false e = refl
-
-pub length-bytes : (vs : List ℕ) (n : ℕ) → Bytes n ≡ length_of vs → (all_small vs ≡ true) × (n ≡ length (encode_all vs))
+pub length-bytes : (vs : List ℕ) (n : ℕ) → Ok n ≡ length_of vs → (all_small vs ≡ true) × (n ≡ length (encode_all vs))
 unfolding length_of
 length-bytes vs n e = go (all_small vs) e
   where
-    go : (b : Bool) → Bytes n ≡ pick b (Bytes (length (encode_all vs))) OneTooLarge → (b ≡ true) × (n ≡ length (encode_all vs))
+    go : (b : Bool) → Ok n ≡ pick b (Ok (length (encode_all vs))) (Err TooLarge) → (b ≡ true) × (n ≡ length (encode_all vs))
     go true e = (refl, cc)
     go false e = (cc, cc)
 
-pub large-length : (vs : List ℕ) → all_small vs ≡ false → OneTooLarge ≡ length_of vs
+pub large-length : (vs : List ℕ) → all_small vs ≡ false → Err TooLarge ≡ length_of vs
 unfolding length_of
 large-length vs e = rw e
 
-pub bytes-length : (vs : List ℕ) (n : ℕ) → all_small vs ≡ true → n ≡ length (encode_all vs) → Bytes n ≡ length_of vs
+pub bytes-length : (vs : List ℕ) (n : ℕ) → all_small vs ≡ true → n ≡ length (encode_all vs) → Ok n ≡ length_of vs
 unfolding length_of
 bytes-length vs n e f = rw (e, f)
 
 -- ---- what writing numbers answers
 
 module _ (xs : List ℕ) (at : ℕ) (vs : List ℕ) where
-  pub put-large : all_small vs ≡ false → (TooLarge ≡ put_answer xs at vs) × (xs ≡ put_bytes xs at vs)
+  pub put-large : all_small vs ≡ false → (Err TooLarge ≡ put_answer xs at vs) × (xs ≡ put_bytes xs at vs)
   unfolding put_answer put_bytes after
   put-large e = rw e (refl, refl)
 
   pub put_small : all_small vs ≡ true → (placed xs at (encode_all vs) ≡ put_answer xs at vs) × (written xs at (encode_all vs) ≡ put_bytes xs at vs)
   unfolding put_answer put_bytes
   put_small e = rw e (refl, refl)
+
+-- the refusal of the length is that of the writer
+pub put-refused : (xs : List ℕ) (at : ℕ) (vs : List ℕ) {refusal : Refusal} → Err refusal ≡ length_of vs → (Err refusal ≡ put_answer xs at vs) × (xs ≡ put_bytes xs at vs)
+unfolding length_of
+put-refused xs at vs {refusal} e = go (all_small vs) refl e
+  where
+    go : (b : Bool) → all_small vs ≡ b → Err refusal ≡ pick b (Ok (length (encode_all vs))) (Err TooLarge) → (Err refusal ≡ put_answer xs at vs) × (xs ≡ put_bytes xs at vs)
+    go true t e = absurd (cc)
+    go false t e = let p = put-large xs at vs t in (e ∙ p.0, p.1)
 
 -- one number: k is the code that was found
 pub encode_one : (v k : ℕ) → k ≡ code_of v → form k v ≡ encode_all (v ∷ [])
@@ -141,15 +143,15 @@ large-one : (v : ℕ) → limit < v → all_small (v ∷ []) ≡ false
 unfolding all_small
 large-one v h = rw (lt-leb v limit h)
 
-module _ (xs : List ℕ) (at v k : ℕ) (e : k ≡ code_of v) where
-  pub one-done : {ys : List ℕ} {r : _} → k < 4 → r ≡ placed xs at (form k v) → ys ≡ written xs at (form k v)
+module _ (xs : List ℕ) (at v : ℕ) where
+  pub one-done : (k : ℕ) {ys : List ℕ} {r : _} → k ≡ code_of v → k < 4 → r ≡ placed xs at (form k v) → ys ≡ written xs at (form k v)
       → (r ≡ put_answer xs at (v ∷ [])) × (ys ≡ put_bytes xs at (v ∷ []))
-  one-done h p q =
+  one-done k e h p q =
       let s = put_small xs at (v ∷ []) (small_one v (code-small v (rw e at h))) in
       (p ∙ ap (placed xs at) (encode_one v k e) ∙ s.0, q ∙ ap (written xs at) (encode_one v k e) ∙ s.1)
 
-  pub one-large : 4 ≤ k → (TooLarge ≡ put_answer xs at (v ∷ [])) × (xs ≡ put_bytes xs at (v ∷ []))
-  one-large h = put-large xs at (v ∷ []) (large-one v (code-large v (rw e at h)))
+  pub one-large : limit < v → (Err TooLarge ≡ put_answer xs at (v ∷ [])) × (xs ≡ put_bytes xs at (v ∷ []))
+  one-large h = put-large xs at (v ∷ []) (large-one v h)
 
 -- a number that fits is laid over what stood there
 pub one-splice : (xs : List ℕ) (at v : ℕ) → v ≤ limit → at + width_of v ≤ length xs → put_bytes xs at (v ∷ []) ≡ splice xs at (encode v)
@@ -157,6 +159,13 @@ unfolding encode_all
 one-splice xs at v h l =
     let p = placed-yes xs at (encode v) (omega (arith, length-encode v h)) in
     sym (p.1 ∙ ap (written xs at) (sym (append-nil (encode v))) ∙ (put_small xs at (v ∷ []) (small_one v h)).1)
+
+-- and the place after it is told
+pub one-place : (xs : List ℕ) (at v : ℕ) → v ≤ limit → at + width_of v ≤ length xs → Ok (at + width_of v) ≡ put_answer xs at (v ∷ [])
+unfolding encode_all
+one-place xs at v h l =
+    let p = placed-yes xs at (encode v) (omega (arith, length-encode v h)) in
+    rw (← length-encode v h) (p.0 ∙ ap (placed xs at) (sym (append-nil (encode v))) ∙ (put_small xs at (v ∷ []) (small_one v h)).0)
 
 -- numbers that all fit, one more laid over the buffer
 pub store-next : (xs : List ℕ) (at : ℕ) (vs : List ℕ) (i : ℕ) → i < length vs → get_or vs i 0 ≤ limit → at + width_of (get_or vs i 0) ≤ length xs

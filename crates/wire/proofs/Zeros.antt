@@ -6,8 +6,8 @@ use native.Mathlib.Omega.{arith}
 use borrow.Author.Tests.{le-leb, lt-leb}
 use lib.Count.{count_leading_zeros, leading_length}
 use lib.Pow.{pow_mono}
-use Rattle.wire.specs.Numbers.{len_of, room_of, largest_of, first_from, code_of, width_of}
-use Rattle.wire.proofs.Lengths.{room-pos, width-found, width-none}
+use Rattle.wire.specs.Numbers.{len_of, room_of, largest_of, limit, first_from, code_of, width_of}
+use Rattle.wire.proofs.Lengths.{room-pos, code-large, width-found}
 
 -- how many bits a number has
 abbrev pub bits_of : ℕ → ℕ
@@ -72,8 +72,8 @@ module _ (v : ℕ) (h : v < 2 ^ 64) where
   no-form z = past-four (omega arith) ∙ (on 0 3 v (too_short 3 62 v refl h z) ∙ ended 4 v)
 
 -- the form of the code that was found
-pub found : (v k : ℕ) → code_of v ≡ k → k < 4 → (k ≡ code_of v) × (len_of k ≡ width_of v)
-found v k e h = (sym e, sym (width-found v (omega arith) ∙ ap len_of e))
+pub found : (v k : ℕ) → code_of v ≡ k → k < 4 → (k ≡ code_of v) × (k < 4) × (len_of k ≡ width_of v)
+found v k e h = (sym e, h, sym (width-found v (omega arith) ∙ ap len_of e))
 
-pub none : (v : ℕ) → code_of v ≡ 4 → (4 ≡ code_of v) × (0 ≡ width_of v)
-none v e = (sym e, sym (width-none v (omega arith)))
+pub none : (v : ℕ) → code_of v ≡ 4 → limit < v
+none v e = code-large v (omega arith)

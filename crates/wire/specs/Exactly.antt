@@ -1,10 +1,9 @@
 -- The rows of the refusal table for numbers and fixed fields: each number is given exactly when its row says, and no other number.
 use Rattle.std.specs.Prelude.{ℕ, ◌+◌, ◌/◌, ◌≤◌, ◌<◌, ◌≡◌, ◌↔◌, ◌⊎◌, Bool, true, List, [], ◌∷◌, ◌++◌, length, get_or}
 use Rattle.wire.specs.Bytes.{Octets}
-use Rattle.wire.specs.Fields.{read_fixed, field, placed, written}
+use Rattle.wire.specs.Fields.{read_fixed, found, field, placed, written}
 use Rattle.wire.specs.Numbers.{len_of, room_of, limit, width_of, form, encode_all, read_number, length_of, put_answer, put_bytes}
-use Rattle.wire.specs.declared.Number.TheVariants.{Value}
-use Rattle.wire.specs.Refusals.{number_refusal, fixed_refusal, put_refusal, length_refusal}
+use Rattle.wire.specs.Refusals.{refusal_number}
 
 -- one of these numbers
 abbrev pub OneOf : ℕ → List ℕ → Type 0
@@ -24,15 +23,15 @@ pub record Reads (refusal ends end : ℕ) : Type 0 where
 
 -- a fixed field, of any length
 abbrev pub FixedReads : Type 0
-FixedReads = (len : ℕ) (s : List ℕ) (at : ℕ) → Reads (fixed_refusal (read_fixed len s at)) (length s) (at + len)
+FixedReads = (len : ℕ) (s : List ℕ) (at : ℕ) → Reads (refusal_number (read_fixed len s at)) (length s) (at + len)
 
 -- a number, whose first byte says its length
 abbrev pub NumberReads : Type 0
-NumberReads = (s : List ℕ) (at : ℕ) → Reads (number_refusal (read_number s at)) (length s) (at + len_of (get_or s at 0 / 64))
+NumberReads = (s : List ℕ) (at : ℕ) → Reads (refusal_number (read_number s at)) (length s) (at + len_of (get_or s at 0 / 64))
 
 -- "whether the form was the shortest" (02, No. 5): it takes as many bytes as the writer's
 abbrev pub FormsTold : Type 0
-FormsTold = (s : List ℕ) (at v next : ℕ) (shortest : Bool) → Octets s → read_number s at ≡ Value v next shortest → shortest ≡ true ↔ next ≡ at + width_of v
+FormsTold = (s : List ℕ) (at v next : ℕ) (shortest : Bool) → Octets s → read_number s at ≡ found v next shortest → shortest ≡ true ↔ next ≡ at + width_of v
 
 -- "frame fields accept it": v in the form of any code that holds it, wherever it stands, is a field of the value v
 abbrev pub FieldsAccept : Type 1
@@ -48,7 +47,7 @@ pub record Writes (refusal room end : ℕ) (vs : List ℕ) : Type 0 where
   pub others : OneOf refusal (0 ∷ 5 ∷ 9 ∷ [])
 
 abbrev pub NumbersWrite : Type 0
-NumbersWrite = (xs : List ℕ) (at : ℕ) (vs : List ℕ) → Writes (put_refusal (put_answer xs at vs)) (length xs) (at + length (encode_all vs)) vs
+NumbersWrite = (xs : List ℕ) (at : ℕ) (vs : List ℕ) → Writes (refusal_number (put_answer xs at vs)) (length xs) (at + length (encode_all vs)) vs
 
 -- a write of bytes gives 9 where the room is short
 pub record Places (refusal room end : ℕ) : Type 0 where
@@ -57,7 +56,7 @@ pub record Places (refusal room end : ℕ) : Type 0 where
   pub others : OneOf refusal (0 ∷ 9 ∷ [])
 
 abbrev pub BytesWrite : Type 0
-BytesWrite = (xs : List ℕ) (at : ℕ) (ys : List ℕ) → Places (put_refusal (placed xs at ys)) (length xs) (at + length ys)
+BytesWrite = (xs : List ℕ) (at : ℕ) (ys : List ℕ) → Places (refusal_number (placed xs at ys)) (length xs) (at + length ys)
 
 -- the length of numbers is refused with 5 for a number above the limit
 pub record Measures (refusal : ℕ) (vs : List ℕ) : Type 0 where
@@ -66,11 +65,11 @@ pub record Measures (refusal : ℕ) (vs : List ℕ) : Type 0 where
   pub others : OneOf refusal (0 ∷ 5 ∷ [])
 
 abbrev pub NumbersMeasured : Type 0
-NumbersMeasured = (vs : List ℕ) → Measures (length_refusal (length_of vs)) vs
+NumbersMeasured = (vs : List ℕ) → Measures (refusal_number (length_of vs)) vs
 
 -- a refused write leaves every element as it was
 abbrev pub NumbersUnchanged : Type 0
-NumbersUnchanged = (xs : List ℕ) (at : ℕ) (vs : List ℕ) → (put_refusal (put_answer xs at vs) ≡ 0 → ⊥) → put_bytes xs at vs ≡ xs
+NumbersUnchanged = (xs : List ℕ) (at : ℕ) (vs : List ℕ) → (refusal_number (put_answer xs at vs) ≡ 0 → ⊥) → put_bytes xs at vs ≡ xs
 
 abbrev pub BytesUnchanged : Type 0
-BytesUnchanged = (xs : List ℕ) (at : ℕ) (ys : List ℕ) → (put_refusal (placed xs at ys) ≡ 0 → ⊥) → written xs at ys ≡ xs
+BytesUnchanged = (xs : List ℕ) (at : ℕ) (ys : List ℕ) → (refusal_number (placed xs at ys) ≡ 0 → ⊥) → written xs at ys ≡ xs

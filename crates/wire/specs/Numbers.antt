@@ -1,15 +1,11 @@
 -- "Numbers on the wire" (RFC 9000 section 16): four lengths, by a code in the top two bits of the first byte.
-use Rattle.std.specs.Prelude.{ℕ, zero, suc, ◌-◌, ◌+◌, ◌*◌, ◌/◌, ◌%◌, ◌^◌, List, [], ◌∷◌, ◌++◌, Bool, true, false, eqb, leb, ltb, length, get_or}
+use Rattle.std.specs.Prelude.{ℕ, zero, suc, ◌-◌, ◌+◌, ◌*◌, ◌/◌, ◌%◌, ◌^◌, List, [], ◌∷◌, ◌++◌, Bool, true, false, Result, Ok, Err, eqb, leb, ltb, length, get_or}
 use Rattle.wire.specs.Bytes.{pick}
 use Rattle.wire.specs.Fields.{read_fixed, fixed, placed, after}
 use Rattle.wire.specs.declared.Fixed.{Fixed}
-use Rattle.wire.specs.declared.Fixed.TheVariants.{Value as FixedValue, Ends as FixedEnds}
 use Rattle.wire.specs.declared.Number.{Number}
-use Rattle.wire.specs.declared.Number.TheVariants.{Value, Ends}
-use Rattle.wire.specs.declared.Put.{Put}
-use Rattle.wire.specs.declared.Put.TheVariants.{TooLarge}
-use Rattle.wire.specs.declared.Length.{Length}
-use Rattle.wire.specs.declared.Length.TheVariants.{Bytes, TooLarge as OneTooLarge}
+use Rattle.wire.specs.declared.Refusal.{Refusal}
+use Rattle.wire.specs.declared.Refusal.TheVariants.{TooLarge}
 
 -- "a length of 1, 2, 4 or 8 bytes": the code k gives 2 ^ k
 abbrev pub len_of : ℕ → ℕ
@@ -48,25 +44,25 @@ abbrev pub is_shortest : ℕ → ℕ → Bool
 is_shortest k v = eqb (code_of v) k
 
 -- a field in the form of code k without the code, which stands above the value
-abbrev pub below_code : ℕ → Fixed → Fixed
-below_code k (FixedValue v next) = FixedValue (v % room_of k) next
-below_code k FixedEnds = FixedEnds
+abbrev pub below_code : ℕ → Result Fixed Refusal → Result Fixed Refusal
+below_code k (Ok field) = Ok (record { value = field.value % room_of k; next = field.next })
+below_code k (Err refusal) = Err refusal
 
 -- a value in the form of code k, and whether that is its shortest
-abbrev pub with_form : ℕ → Fixed → Number
-with_form k (FixedValue v next) = Value v next (is_shortest k v)
-with_form k FixedEnds = Ends
+abbrev pub with_form : ℕ → Result Fixed Refusal → Result Number Refusal
+with_form k (Ok field) = Ok (record { value = field.value; next = field.next; shortest = is_shortest k field.value })
+with_form k (Err refusal) = Err refusal
 
 -- the number that a field is in the form of code k
-abbrev pub in_form : ℕ → Fixed → Number
+abbrev pub in_form : ℕ → Result Fixed Refusal → Result Number Refusal
 in_form k field = with_form k (below_code k field)
 
 -- the number at at in the form of code k
-unfoldable pub read_form : ℕ → List ℕ → ℕ → Number
+unfoldable pub read_form : ℕ → List ℕ → ℕ → Result Number Refusal
 read_form k s at = in_form k (read_fixed (len_of k) s at)
 
 -- "the top two bits of the first byte give" the code
-unfoldable pub read_number : List ℕ → ℕ → Number
+unfoldable pub read_number : List ℕ → ℕ → Result Number Refusal
 read_number s at = read_form (get_or s at 0 / 64) s at
 
 -- ---- writing: "Writers use the shortest"
@@ -90,12 +86,12 @@ all_small [] = true
 all_small (v ∷ vs) = pick (leb v limit) (all_small vs) false
 
 -- how many bytes they take together
-unfoldable pub length_of : List ℕ → Length
-length_of vs = pick (all_small vs) (Bytes (length (encode_all vs))) OneTooLarge
+unfoldable pub length_of : List ℕ → Result ℕ Refusal
+length_of vs = pick (all_small vs) (Ok (length (encode_all vs))) (Err TooLarge)
 
 -- writing numbers at at: 5, then 9
-unfoldable pub put_answer : List ℕ → ℕ → List ℕ → Put
-put_answer xs at vs = pick (all_small vs) (placed xs at (encode_all vs)) TooLarge
+unfoldable pub put_answer : List ℕ → ℕ → List ℕ → Result ℕ Refusal
+put_answer xs at vs = pick (all_small vs) (placed xs at (encode_all vs)) (Err TooLarge)
 
 -- the lent buffer after that
 unfoldable pub put_bytes : List ℕ → ℕ → List ℕ → List ℕ

@@ -1,23 +1,30 @@
--- The paper's number for each answer, 0 for accepted.
-use Rattle.std.specs.Prelude.{ℕ}
-use Rattle.wire.specs.declared.Number as number
-use Rattle.wire.specs.declared.Fixed as fixed
-use Rattle.wire.specs.declared.Put as put
-use Rattle.wire.specs.declared.Length as lengths
+-- "Given exactly when": the paper's number for each row of the table, and for an answer, 0 for accepted.
+use Rattle.std.specs.Prelude.{ℕ, Result, Ok, Err}
+use Rattle.wire.specs.declared.Refusal.{Refusal}
+use Rattle.wire.specs.declared.Refusal.TheVariants.{Inconsistent, Ends, OtherType, DelayRule, TooLarge, Received, BelowWindow, NothingReceived, NoRoom, BrokenCount, OtherTotal, BrokenEntry, BytesRemain, BelowZero, LongerForm, NeverSent, OtherObject, OtherProfile, NotAcknowledged, TooLong}
 
-abbrev pub number_refusal : number.Number → ℕ
-number_refusal (number.TheVariants.Value v next shortest) = 0
-number_refusal number.TheVariants.Ends = 2
+abbrev pub number_of : Refusal → ℕ
+number_of Inconsistent = 1
+number_of Ends = 2
+number_of OtherType = 3
+number_of DelayRule = 4
+number_of TooLarge = 5
+number_of Received = 6
+number_of BelowWindow = 7
+number_of NothingReceived = 8
+number_of NoRoom = 9
+number_of BrokenCount = 10
+number_of OtherTotal = 11
+number_of BrokenEntry = 12
+number_of BytesRemain = 13
+number_of BelowZero = 14
+number_of LongerForm = 15
+number_of NeverSent = 16
+number_of OtherObject = 17
+number_of OtherProfile = 18
+number_of NotAcknowledged = 19
+number_of TooLong = 20
 
-abbrev pub fixed_refusal : fixed.Fixed → ℕ
-fixed_refusal (fixed.TheVariants.Value v next) = 0
-fixed_refusal fixed.TheVariants.Ends = 2
-
-abbrev pub put_refusal : put.Put → ℕ
-put_refusal (put.TheVariants.Done next) = 0
-put_refusal put.TheVariants.TooLarge = 5
-put_refusal put.TheVariants.NoRoom = 9
-
-abbrev pub length_refusal : lengths.Length → ℕ
-length_refusal (lengths.TheVariants.Bytes n) = 0
-length_refusal lengths.TheVariants.TooLarge = 5
+abbrev pub refusal_number : {A : Type 0} → Result A Refusal → ℕ
+refusal_number (Ok answer) = 0
+refusal_number (Err refusal) = number_of refusal

@@ -6,14 +6,15 @@
 
 ghost use Rattle.std.specs.Prelude.{◌≡◌, ◌<◌};
 ghost use Rattle.wire.specs.Numbers.{len_of, largest_of};
-ghost use Rattle.wire.specs.Refusals.{number_refusal, fixed_refusal, put_refusal, length_refusal};
 
 mod fields;
 mod numbers;
+mod refusals;
 mod several;
 
 pub use fields::{put_fixed4, put_fixed8, read_fixed4, read_fixed8};
 pub use numbers::{put_number, read_number, width, width_by_table};
+pub use refusals::refusal_number;
 pub use several::{length_of, put_numbers};
 
 // The largest number on the wire, 2^62 - 1.
@@ -54,95 +55,69 @@ pub(crate) fn form_at(code: usize) -> Form
     FORMS[code]
 }
 
-// What reading a number finds: its value, the place after it and whether its form was the shortest, or that the bytes end inside it.
+// A number that was read: its value, the place after it and whether its form was the shortest.
 #[derive(Clone, Copy)]
-pub enum Number {
-    Value {
-        value: u64,
-        next: usize,
-        shortest: bool,
-    },
-    Ends,
+pub struct Number {
+    pub value: u64,
+    pub next: usize,
+    pub shortest: bool,
 }
 
-// What reading a fixed field finds: its value and the place after it, or that the bytes end inside it.
+// A fixed field that was read: its value and the place after it.
 #[derive(Clone, Copy)]
-pub enum Fixed {
-    Value { value: u64, next: usize },
-    Ends,
+pub struct Fixed {
+    pub value: u64,
+    pub next: usize,
 }
 
-// What writing answers: the place after what was written, or why nothing was.
-#[derive(Clone, Copy)]
-pub enum Put {
-    Done { next: usize },
-    TooLarge,
-    NoRoom,
+// Why a call is refused: the rows of the paper's table, each under its number.
+#[derive(Clone, Copy, PartialEq, Eq, Debug)]
+pub enum Refusal {
+    // The record handed in is not consistent.
+    Inconsistent = 1,
+    // The bytes end inside a field.
+    Ends = 2,
+    // The frame type is another one, or not in shortest form.
+    OtherType = 3,
+    // A delay breaks the delay rule.
+    DelayRule = 4,
+    // A number, threshold or time is above 2^62 - 1, or a signed value is outside its range.
+    TooLarge = 5,
+    // The packet number lies in the window and was received.
+    Received = 6,
+    // The packet number lies below the window.
+    BelowWindow = 7,
+    // A call comes that needs a packet, and nothing has been received yet.
+    NothingReceived = 8,
+    // The smallest permitted output does not fit the room.
+    NoRoom = 9,
+    // A report's metric count, metric types or entry count break their rule.
+    BrokenCount = 10,
+    // The total differs from received, late and lost together.
+    OtherTotal = 11,
+    // An entry record breaks its rule.
+    BrokenEntry = 12,
+    // Bytes remain after a report.
+    BytesRemain = 13,
+    // An ACK range goes below number 0.
+    BelowZero = 14,
+    // A number of a report is in a longer form than it need be.
+    LongerForm = 15,
+    // A number is acknowledged that was never sent.
+    NeverSent = 16,
+    // The object is outside those that are tracked.
+    OtherObject = 17,
+    // The profile is other than 1 or 2.
+    OtherProfile = 18,
+    // The number confirmed is above the largest acknowledged.
+    NotAcknowledged = 19,
+    // The report is longer than 8,192 bytes.
+    TooLong = 20,
 }
 
-// How many bytes several numbers take together, or that one of them is too large.
-#[derive(Clone, Copy)]
-pub enum Length {
-    Bytes(usize),
-    TooLarge,
-}
-
-// The shortest form that holds a number: its code and its length, or 4 and 0 where none does.
+// The shortest form that holds a number: its code and its length.
 #[derive(Clone, Copy)]
 pub struct Fit {
     pub code: usize,
     pub len: usize,
-}
-
-impl Number {
-    // The paper's number for the answer, 0 for accepted.
-    pub fn refusal(self) -> u64
-        ensures { result ≡ number_refusal self }
-    {
-        match self {
-            Number::Value {
-                value: _,
-                next: _,
-                shortest: _,
-            } => 0,
-            Number::Ends => 2,
-        }
-    }
-}
-
-impl Fixed {
-    // The paper's number for the answer, 0 for accepted.
-    pub fn refusal(self) -> u64
-        ensures { result ≡ fixed_refusal self }
-    {
-        match self {
-            Fixed::Value { value: _, next: _ } => 0,
-            Fixed::Ends => 2,
-        }
-    }
-}
-
-impl Put {
-    // The paper's number for the answer, 0 for accepted.
-    pub fn refusal(self) -> u64
-        ensures { result ≡ put_refusal self }
-    {
-        match self {
-            Put::Done { next: _ } => 0,
-            Put::TooLarge => 5,
-            Put::NoRoom => 9,
-        }
-    }
-}
-
-impl Length {
-    // The paper's number for the answer, 0 for accepted.
-    pub fn refusal(self) -> u64
-        ensures { result ≡ length_refusal self }
-    {
-        match self {
-            Length::Bytes(_) => 0,
-            Length::TooLarge => 5,
-        }
-    }
 }

@@ -3,24 +3,19 @@ ghost use Rattle.std.specs.Prelude.{◌≡◌, true, ◌+◌, ◌≤◌, length}
 ghost use Rattle.wire.specs.Bytes.{splice};
 ghost use Rattle.wire.specs.Numbers.{encode_all, all_small, length_of, put_answer, put_bytes};
 
-use crate::numbers::{put_number, width};
-use crate::{Length, Put};
+use crate::Refusal;
+use crate::numbers::{put_number, shortest};
 
 // How many bytes the numbers take together.
-pub fn length_of(values: &[u64]) -> Length
+pub fn length_of(values: &[u64]) -> Result<usize, Refusal>
     ensures { result ≡ length_of values.now }
 {
     let mut total: usize = 0;
-    let mut i: usize = 0;
-    while i < values.len() {
-        let len = width(values[i]);
-        if len == 0 {
-            return Length::TooLarge;
-        }
-        total = total + len;
-        i += 1;
+    for &value in values {
+        let fit = shortest(value)?;
+        total += fit.len;
     }
-    Length::Bytes(total)
+    Ok(total)
 }
 
 // Writes the numbers one after the other from at on, where they all fit.
@@ -29,29 +24,21 @@ fn store_numbers(buf: &mut [u8], at: usize, values: &[u64])
     ensures { buf.new ≡ splice buf.old at (encode_all values.now) }
 {
     let mut place = at;
-    let mut i: usize = 0;
-    while i < values.len() {
-        let v = values[i];
-        let len = width(v);
-        put_number(buf, place, v);
-        place = place + len;
-        i += 1;
+    for &value in values {
+        if let Ok(next) = put_number(buf, place, value) {
+            place = next;
+        }
     }
 }
 
 // Writes the numbers one after the other from at on, all of them or none.
-pub fn put_numbers(buf: &mut [u8], at: usize, values: &[u64]) -> Put
+pub fn put_numbers(buf: &mut [u8], at: usize, values: &[u64]) -> Result<usize, Refusal>
     ensures { (result ≡ put_answer buf.old at values.now) × (buf.new ≡ put_bytes buf.old at values.now) }
 {
-    let Length::Bytes(total) = length_of(values) else {
-        return Put::TooLarge;
-    };
-    if buf.len() < at {
-        return Put::NoRoom;
-    }
-    if buf.len() - at < total {
-        return Put::NoRoom;
+    let total = length_of(values)?;
+    if buf.len() < at || buf.len() - at < total {
+        return Err(Refusal::NoRoom);
     }
     store_numbers(buf, at, values);
-    Put::Done { next: at + total }
+    Ok(at + total)
 }

@@ -8,23 +8,19 @@ use Rattle.ack.proofs.room_before.Goals as goal
 pub overflow_add-bytes : goal.overflow_add-bytes
 overflow_add-bytes c =
     let x = narrow _ c.width.ensures in
-    let y = narrow _ c.width-in-Counts.ensures in
+    let y = narrow _ c.width-in-Some.ensures in
     omega arith
 
-pub overflow_add-bytes-in-Counts : goal.overflow_add-bytes-in-Counts
-overflow_add-bytes-in-Counts c =
+pub overflow_add-bytes-in-Some : goal.overflow_add-bytes-in-Some
+overflow_add-bytes-in-Some c =
     let x = narrow _ c.width.ensures in
-    let y = narrow _ c.width-in-Counts.ensures in
-    let z = narrow _ c.width-in-Counts-2.ensures in
+    let y = narrow _ c.width-in-Some.ensures in
+    let z = narrow _ c.width-in-Some-2.ensures in
     omega arith
 
-pub returns-then-room-bytes : goal.returns-then-room-bytes
-returns-then-room-bytes c =
-    omega (arith, three-take c.in-Counts.is c.requires c.width.ensures c.width-in-Counts.ensures c.width-in-Counts-2.ensures, c.if-room-bytes.true)
+pub returns-in-None : goal.returns-in-None
+returns-in-None c = none-takes c.in-None.is _
 
-pub returns-in-Nothing : goal.returns-in-Nothing
-returns-in-Nothing c = none-takes c.in-Nothing.is _
-
-pub returns-else-room-bytes : goal.returns-else-room-bytes
-returns-else-room-bytes c =
-    omega (arith, three-take c.in-Counts.is c.requires c.width.ensures c.width-in-Counts.ensures c.width-in-Counts-2.ensures, c.if-room-bytes.false)
+pub returns-in-Some : goal.returns-in-Some
+returns-in-Some c =
+    omega (arith, three-take c.in-Some.is c.requires c.width.ensures c.width-in-Some.ensures c.width-in-Some-2.ensures, c.saturating_sub.ensures)

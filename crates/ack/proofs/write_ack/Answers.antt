@@ -1,34 +1,29 @@
 -- `ack::write_ack` meets its contract: the refusals in the definition's order, and then the frame of what is reported.
 -- Assumes nothing.
-use mathlib.Core.Path.{◌∙◌}
 use Rattle.seen.proofs.Tests.{failed, held}
-use Rattle.ack.proofs.Written.{some_end, gives_one, gives-five, gives-five-too, gives-eight, refused, passed_on}
+use Rattle.ack.proofs.Written.{some_end, refused_one, refused-five, refused-eight, passed_on}
 use Rattle.ack.proofs.write_ack.Goals as goal
 
 pub returns-then-not-consistent : goal.returns-then-not-consistent
 returns-then-not-consistent c =
     let a = c.args in
-    let w = refused a.seen a.time a.tail a.buf.now 0 (gives_one _ _ _ _ (failed c.consistent.ensures c.if-not-consistent.true)) in
-    (c.refused.ensures ∙ w.0, w.1)
+    refused_one a.seen a.time a.tail a.buf.now (failed c.consistent.ensures c.if-not-consistent.true)
 
 pub returns-then-not-is_small : goal.returns-then-not-is_small
 returns-then-not-is_small c =
     let a = c.args in
-    let w = refused a.seen a.time a.tail a.buf.now 4
-    (gives-five _ _ _ _ (held c.consistent.ensures c.if-not-consistent.false) (failed c.is_small.ensures c.if-not-is_small.true)) in
-    (c.refused-then-not-is_small.ensures ∙ w.0, w.1)
+    refused-five a.seen a.time a.tail a.buf.now (held c.consistent.ensures c.if-not-consistent.false) (rw (failed c.is_small.ensures c.if-not-is_small.true))
 
 pub returns-then-not-counts_obey : goal.returns-then-not-counts_obey
 returns-then-not-counts_obey c =
     let a = c.args in
-    let w = refused a.seen a.time a.tail a.buf.now 4 (gives-five-too _ _ _ _ (held c.consistent.ensures c.if-not-consistent.false) (held c.is_small.ensures c.if-not-is_small.false) (failed c.counts_obey.ensures c.if-not-counts_obey.true)) in
-    (c.refused-then-not-counts_obey.ensures ∙ w.0, w.1)
+    refused-five a.seen a.time a.tail a.buf.now (held c.consistent.ensures c.if-not-consistent.false)
+    (rw (held c.is_small.ensures c.if-not-is_small.false, failed c.counts_obey.ensures c.if-not-counts_obey.true))
 
 pub returns-then-seen-eq0 : goal.returns-then-seen-eq0
 returns-then-seen-eq0 c =
     let a = c.args in
-    let w = refused a.seen a.time a.tail a.buf.now 7 (gives-eight _ _ _ _ (held c.consistent.ensures c.if-not-consistent.false) (held c.is_small.ensures c.if-not-is_small.false) (held c.counts_obey.ensures c.if-not-counts_obey.false) c.if-seen-eq0.true) in
-    (c.refused-then-seen-eq0.ensures ∙ w.0, w.1)
+    refused-eight a.seen a.time a.tail a.buf.now (held c.consistent.ensures c.if-not-consistent.false) (held c.is_small.ensures c.if-not-is_small.false) (held c.counts_obey.ensures c.if-not-counts_obey.false) c.if-seen-eq0.true
 
 pub write_marks-requires : goal.write_marks-requires
 write_marks-requires c =

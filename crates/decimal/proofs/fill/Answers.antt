@@ -1,36 +1,31 @@
--- `decimal::fill` meets its contract. The loop's invariant: the digits still to write, before those written, are the whole.
+-- `decimal::fill` meets its contract.
 -- Assumes nothing.
-use Prim.Native.Nat.{ℕ, zero, suc, ◌+◌, ◌-◌, ◌/◌, ◌%◌, ◌≤◌, ◌<◌}
-use mathlib.Core.Path.{◌≡◌, refl, ap, ◌∙◌}
-use mathlib.Core.List.{List, [], ◌∷◌}
-use native.Mathlib.Nat.{le_refl, not-suc-le-zero, le_of_suc-le-suc}
-use native.Mathlib.Numerals.{sub-one}
+use mathlib.Core.Path.{◌≡◌, refl, ◌∙◌}
 use native.Mathlib.Omega.{arith}
+use native.Mathlib.Nat.{le_refl}
 use lib.Seq.{drop-length}
-use lib.ListN.{length, drop, set, length-set}
-use Rattle.decimal.specs.Decimal.{last_digits}
+use lib.ListN.{length-set}
+use Rattle.decimal.proofs.Digits.{two_digits, one-digit}
 use Rattle.decimal.proofs.fill.Goals as goal
-
-drop-set : (l : List ℕ) (i b : ℕ) → i < length l → drop i (set l i b) ≡ b ∷ drop (suc i) l
-drop-set [] i b h = absurd (not-suc-le-zero h)
-drop-set (x ∷ l) zero b h = refl
-drop-set (x ∷ l) (suc i) b h = drop-set l i b (le_of_suc-le-suc h)
-
--- one digit more, from the end
-turn : (buf : List ℕ) (i n : ℕ) → 0 < i → i ≤ length buf
-    → last_digits (i - 1) (n / 10) (drop (i - 1) (set buf (i - 1) (48 + n % 10))) ≡ last_digits i n (drop i buf)
-turn buf zero n h l = absurd (not-suc-le-zero h)
-turn buf (suc i) n h l = rw sub-one (ap (last_digits i (n / 10)) (drop-set buf i (48 + n % 10) l))
 
 pub loop-i-init : goal.loop-i-init
 loop-i-init c = (le_refl _, refl, rw drop-length)
 
+pub bounds-buf-i : goal.bounds-buf-i
+bounds-buf-i c = rw length-set (omega arith)
+
 pub loop-i-preserved : goal.loop-i-preserved
 loop-i-preserved c =
     let l = c.loop-i in
-    (simp length-set (omega arith), simp length-set l.invariant.1, turn _ _ _ c.loop-i-test.true l.invariant.0 ∙ l.invariant.2)
+    (simp length-set (omega arith), simp length-set l.invariant.1, two_digits _ _ _ c.loop-i-test.true l.invariant.0 ∙ l.invariant.2)
 
-pub returns : goal.returns
-returns c =
-    let e : c.loop-i.i ≡ 0 = omega arith in
-    rw e at c.loop-i.invariant.2
+pub returns-then-i-eq1 : goal.returns-then-i-eq1
+returns-then-i-eq1 c =
+    let l = c.loop-i in
+    one-digit _ _ _ c.if-i-eq1.true l.invariant.0 ∙ l.invariant.2
+
+pub returns-else-i-eq1 : goal.returns-else-i-eq1
+returns-else-i-eq1 c =
+    let l = c.loop-i in
+    let e : l.i ≡ 0 = omega (arith, c.if-i-eq1.false, c.loop-i-test.false) in
+    rw e at l.invariant.2

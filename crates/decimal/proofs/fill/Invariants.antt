@@ -1,4 +1,4 @@
--- `decimal::fill` meets its contract. The loop's invariant: the digits still to write, before those written, are the whole.
+-- `decimal::fill` meets its contract.
 -- Assumes nothing.
 use Prim.Native.Nat.{◌≤◌}
 use mathlib.Core.Path.{◌≡◌}

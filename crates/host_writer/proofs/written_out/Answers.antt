@@ -1,12 +1,12 @@
--- `host_writer::written_out` meets its contract: each case gets its refusal number and its own values.
+-- `host_writer::written_out` meets its contract: an answer gets its values, and a refusal its number.
 -- Assumes nothing.
 use Rattle.host_writer.specs.Writer.{written_out}
 use Rattle.host_writer.proofs.written_out.Goals as goal
 
-pub returns-in-Done : goal.returns-in-Done
+pub returns-in-Ok : goal.returns-in-Ok
 unfolding written_out
-returns-in-Done c = rw (c.refusal-result.ensures, c.in-Done.is)
+returns-in-Ok c = rw c.in-Ok.is
 
-pub returns-in-Refused : goal.returns-in-Refused
+pub returns-in-Err : goal.returns-in-Err
 unfolding written_out
-returns-in-Refused c = rw (c.refusal-result.ensures, c.in-Refused.is)
+returns-in-Err c = rw (c.number.ensures, c.in-Err.is)

@@ -6,9 +6,9 @@ use lib.ListN.{length}
 use Rattle.marks.specs.Marks.{mark, listed}
 use Rattle.marks.proofs.count_marks.Given as goal
 
-abbrev pub invariant-loop-at : goal.invariant-loop-at
-invariant-loop-at l =
+abbrev pub invariant-loop-found : goal.invariant-loop-found
+invariant-loop-found l =
     (l.count + l.from ≤ l.at) × (length (listed (mark l.words) (l.to - l.from) l.from) ≡ l.count + length (listed (mark l.words) (l.to - l.at) l.at))
 
-abbrev pub decreases-loop-at : goal.decreases-loop-at
-decreases-loop-at l = l.to - l.at
+abbrev pub decreases-loop-found : goal.decreases-loop-found
+decreases-loop-found l = l.to - l.at

@@ -6,18 +6,18 @@ use Rattle.page.proofs.Printing.{begun, passed, written_on, ended-used, ended-by
 use Rattle.page.proofs.put_lines.Goals as goal
 use Rattle.page.proofs.put_lines.Goals.{then-is_shown, else-is_shown}
 
-pub loop-i-init : goal.loop-i-init
-loop-i-init c = begun _ _
+pub loop-place-init : goal.loop-place-init
+loop-place-init c = begun _ _
 
 pub put_line-at-requires : goal.put_line-at-requires
 put_line-at-requires c =
-    let p = c.loop-i.invariant in
+    let p = c.loop-place.invariant in
     (omega arith, omega (arith, p.room, p.long, c.requires))
 
-pub loop-i-preserved : goal.loop-i-preserved
-loop-i-preserved c =
-    let p = c.loop-i.invariant in
-    let h = c.loop-i-test.true in
+pub loop-place-preserved : goal.loop-place-preserved
+loop-place-preserved c =
+    let p = c.loop-place.invariant in
+    let h = c.loop-place-test.true in
     let e = c.is_shown.ensures in
     elim c.if-is_shown.branch [
       | then-is_shown w ↦
@@ -27,10 +27,10 @@ loop-i-preserved c =
     ]
 
 pub shape_of-buf : goal.shape_of-buf
-shape_of-buf c = c.loop-i.invariant.long
+shape_of-buf c = c.loop-place.invariant.long
 
 pub returns : goal.returns
 returns c =
-    let p = c.loop-i.invariant in
-    let h = c.loop-i-test.false in
+    let p = c.loop-place.invariant in
+    let h = c.loop-place-test.false in
     (ended-used _ _ p h, ended-bytes _ _ p h, ended-room _ _ p h)

@@ -16,12 +16,12 @@ returns-then-buf-length c =
 pub slice_bounds-put_text-end : goal.slice_bounds-put_text-end
 slice_bounds-put_text-end c = sym (length-take-le _ _ (search rules))
 
-pub put_text-next-requires : goal.put_text-next-requires
-put_text-next-requires c = let l = c.lay_out-length in omega (arith, length-take l.result l.new.buf)
+pub put_text-requires : goal.put_text-requires
+put_text-requires c = let l = c.lay_out-length in omega (arith, length-take l.result l.new.buf)
 
 pub returns : goal.returns
 returns c =
     let a = c.args in
     let l = c.lay_out-length in
-    let p = c.put_text-next.ensures in
+    let p = c.put_text.ensures in
     page-yes a.standing a.left a.buf.now (take l.result l.new.buf) (laid_out _ _ _ _ l.ensures.0 l.ensures.1) (simp length-take (omega arith)) p.0 p.1

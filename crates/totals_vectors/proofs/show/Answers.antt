@@ -6,10 +6,10 @@ use Rattle.totals_vectors.proofs.show.Goals as goal
 
 pub slice_bounds-write_all-end : goal.slice_bounds-write_all-end
 slice_bounds-write_all-end g c =
-    let w = page-within (record { totals = c.args.totals; skip = 0 }) c.args.left c.args.output.now c.put_page.ensures.0 c.in-Done.is in
+    let w = page-within (record { totals = c.args.totals; skip = 0 }) c.args.left c.args.output.now c.put_page.ensures.0 c.in-Ok.is in
     omega (arith, w, c.put_page.auto.buf)
 
 pub slice_bounds-write_all-end-2 : goal.slice_bounds-write_all-end-2
 slice_bounds-write_all-end-2 g c =
-    let w = page-within (record { totals = c.args.totals; skip = 0 }) c.args.left c.args.output.now c.put_page.ensures.0 c.in-Done.is in
-    sym (length-take-le c.in-Done.next c.put_page.new.buf (omega (arith, w, c.put_page.auto.buf)))
+    let w = page-within (record { totals = c.args.totals; skip = 0 }) c.args.left c.args.output.now c.put_page.ensures.0 c.in-Ok.is in
+    sym (length-take-le c.in-Ok.next c.put_page.new.buf (omega (arith, w, c.put_page.auto.buf)))

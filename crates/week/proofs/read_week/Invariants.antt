@@ -1,6 +1,5 @@
 -- The loop's invariant: the program stands where the definitions stand after the same reads. The measure is the number of turns that are
 -- left.
-use Rattle.std.proofs.Common.{◌≡◌, length}
 use Rattle.week.proofs.Turning.{Reached}
 use Rattle.week.proofs.read_week.Given as goal
 

@@ -2,7 +2,6 @@
 use mathlib.Core.Path.{◌≡◌, refl, sym, ap, ◌∙◌}
 use mathlib.Core.List.{List}
 use Prim.Native.Nat.{ℕ, ◌/◌, ◌%◌, ◌^◌}
-use native.Mathlib.Omega.{arith}
 use lib.ListN.{replicate}
 use Rattle.window.specs.Words.{number_of, words_of}
 use Rattle.window.proofs.Sixteen.{Sixteen, told}
@@ -21,17 +20,6 @@ zeros = refl
 pub returns-then-d-ge-PLACES : goal.returns-then-d-ge-PLACES
 returns-then-d-ge-PLACES c =
     let s = c in zeros ∙ ap (words_of 16) (sym (shifted-out _ (known (goal.at.returns-then-d-ge-PLACES c).After-told_words) s.args.d c.if-d-ge-PLACES.true))
-
-pub returns-then-d-eq1 : goal.returns-then-d-eq1
-returns-then-d-eq1 c =
-    let s = c in
-    c.bits_down.ensures ∙ ap (λ (d : ℕ). words_of 16 (number_of s.args.words.now / 2 ^ d)) (sym c.if-d-eq1.true)
-
-pub returns-then-q-eq0 : goal.returns-then-q-eq0
-returns-then-q-eq0 c =
-    let s = c in
-    let e : s.args.d % 64 ≡ s.args.d = omega arith in
-    c.bits_down-then-q-eq0.ensures ∙ ap (λ (d : ℕ). words_of 16 (number_of s.args.words.now / 2 ^ d)) e
 
 pub returns : goal.returns
 returns c =

@@ -1,9 +1,9 @@
 -- `bits_down` meets its contract. The invariant: the words below `i` are those of the shifted number.
--- The measure is what is left of the words. Assumes nothing.
+-- Assumes nothing.
 use mathlib.Core.Path.{◌≡◌, sym, ap, ◌∙◌, subst}
 use mathlib.Core.Logic.{⊎_elim}
 use Prim.Native.Nat.{ℕ, ◌+◌, ◌-◌, ◌*◌, ◌/◌, ◌%◌, ◌^◌, ◌<◌}
-use native.Mathlib.Nat.{not-suc-le-zero, le_of_suc-le-suc, eq-or-lt_of_le, mod-lt, div-one}
+use native.Mathlib.Nat.{le_of_suc-le-suc, eq-or-lt_of_le, mod-lt, div-one}
 use native.Mathlib.Omega.{arith}
 use borrow.Author.Count.{below_more}
 use lib.ListN.{get_or, set, length-set}
@@ -31,47 +31,8 @@ step : (c : In-loop-i)
     get_or ws c.loop-i.i 0 / 2 ^ a.s + (get_or ws (c.loop-i.i + 1) 0 * 2 ^ (64 - a.s)) % 2 ^ 64 ≡ word_at (number_of ws / 2 ^ a.s) c.loop-i.i
 step c = let k = c in let s = k in shifted _ (known k.before.before.before) s.args.s s.requires c.loop-i.i
 
-pub loop-i-init : goal.loop-i-init
-loop-i-init c = ((known (goal.at.loop-i-init c).After-told_words).long, λ k h. absurd (not-suc-le-zero h))
-
-pub offset_bounds-own-i : goal.offset_bounds-own-i
-offset_bounds-own-i c = omega arith
-
-pub bounds-own-i : goal.bounds-own-i
-bounds-own-i c = omega arith
-
-pub overflow_shr-words : goal.overflow_shr-words
-overflow_shr-words c = omega arith
-
-pub overflow_add-words : goal.overflow_add-words
-overflow_add-words c = omega arith
-
-pub offset_bounds-own-i-in-loop-i : goal.offset_bounds-own-i-in-loop-i
-offset_bounds-own-i-in-loop-i c = omega arith
-
-pub bounds-own-i-in-loop-i : goal.bounds-own-i-in-loop-i
-bounds-own-i-in-loop-i c = omega arith
-
-pub overflow_sub-words : goal.overflow_sub-words
-overflow_sub-words c = omega arith
-
-pub overflow_shl-words : goal.overflow_shl-words
-overflow_shl-words c = omega arith
-
 pub overflow_add-words-in-loop-i : goal.overflow_add-words-in-loop-i
 overflow_add-words-in-loop-i c = record { fits = subst (λ (x : ℕ). x < 2 ^ 64) (sym (step c)) (mod-lt _ (pow_pos 64)) }
-
-pub offset_bounds-words-i : goal.offset_bounds-words-i
-offset_bounds-words-i c = omega arith
-
-pub bounds-words-i : goal.bounds-words-i
-bounds-words-i c = omega arith
-
-pub overflow_step-i : goal.overflow_step-i
-overflow_step-i c = omega arith
-
-pub loop-i-smaller : goal.loop-i-smaller
-loop-i-smaller c = omega arith
 
 pub loop-i-preserved : goal.loop-i-preserved
 loop-i-preserved c =
@@ -81,15 +42,6 @@ loop-i-preserved c =
           (λ k h. get_or-set_other l.words l.i k _ 0 (λ e. omega arith) ∙ l.invariant.1 k h)
           (get_or-set_same l.words l.i _ 0 (omega arith) ∙ step (goal.at.loop-i-preserved c).In-loop-i),
     )
-
-pub bounds-own-15 : goal.bounds-own-15
-bounds-own-15 c = omega arith
-
-pub overflow_shr-words-2 : goal.overflow_shr-words-2
-overflow_shr-words-2 c = omega arith
-
-pub bounds-words-15 : goal.bounds-words-15
-bounds-words-15 c = omega arith
 
 pub returns : goal.returns
 returns c =

@@ -1,7 +1,7 @@
 -- `bits_down` meets its contract. The invariant: the words below `i` are those of the shifted number.
--- The measure is what is left of the words. Assumes nothing.
+-- Assumes nothing.
 use mathlib.Core.Path.{◌≡◌}
-use Prim.Native.Nat.{ℕ, ◌-◌, ◌/◌, ◌^◌, ◌<◌}
+use Prim.Native.Nat.{ℕ, ◌/◌, ◌^◌, ◌<◌}
 use lib.ListN.{length, get_or}
 use Rattle.window.specs.Words.{number_of}
 use Rattle.window.proofs.Shift.{word_at}
@@ -9,6 +9,3 @@ use Rattle.window.proofs.bits_down.Given as goal
 
 abbrev pub invariant-loop-i : goal.invariant-loop-i
 invariant-loop-i l = (length l.words ≡ 16) × ((k : ℕ) → k < l.i → get_or l.words k 0 ≡ word_at (number_of l.own / 2 ^ l.s) k)
-
-abbrev pub decreases-loop-i : goal.decreases-loop-i
-decreases-loop-i l = 15 - l.i

@@ -2,10 +2,9 @@
 -- The measure is `left`. Assumes nothing.
 use mathlib.Core.Path.{◌≡◌, sym, ap, ◌∙◌}
 use Prim.Native.Nat.{ℕ, ◌+◌, ◌-◌, ◌*◌, ◌/◌, ◌%◌, ◌^◌, ◌≤◌, ◌<◌}
-use native.Mathlib.Nat.{lt_of_le_of_lt, mod-eq_of_lt}
+use native.Mathlib.Nat.{mod-eq_of_lt}
 use native.Mathlib.Omega.{arith}
-use lib.Count.{count_leading_zeros, leading_le}
-use lib.Dec.{lit<}
+use lib.Count.{count_leading_zeros}
 use lib.ListN.{get_or}
 use Rattle.window.specs.Words.{words_in, other_than}
 use Rattle.window.specs.Window.{lent_value, run_below}
@@ -17,30 +16,6 @@ use Rattle.window.proofs.run_within.Goals as goal
 use Rattle.window.proofs.run_within.Tie as tie
 use Rattle.window.proofs.run_within.Lts as lts
 use Rattle.window.proofs.run_within.Reads as reads
-
-pub loop-left-init : goal.loop-left-init
-loop-left-init c = omega arith
-
-pub overflow_sub-i : goal.overflow_sub-i
-overflow_sub-i c = omega arith
-
-pub overflow_sub-k : goal.overflow_sub-k
-overflow_sub-k c = omega arith
-
-pub offset_bounds-words-i : goal.offset_bounds-words-i
-offset_bounds-words-i c = omega arith
-
-pub bounds-words-i : goal.bounds-words-i
-bounds-words-i c = omega arith
-
-pub other_than-other-requires : goal.other_than-other-requires
-other_than-other-requires c = tt
-
-pub overflow_sub-rest : goal.overflow_sub-rest
-overflow_sub-rest c = omega arith
-
-pub overflow_shl-rest : goal.overflow_shl-rest
-overflow_shl-rest c = omega arith
 
 -- the zeros that the code counts are a run of marks
 abbrev zeros : lts.After-other_than tie.the-claims reads.Pre reads.Post goal.the-invariant-loop-left goal.the-decreases-loop-left → ℕ
@@ -86,15 +61,6 @@ goes_on c =
 above : (c : lts.After-other_than tie.the-claims reads.Pre reads.Post goal.the-invariant-loop-left goal.the-decreases-loop-left) → c.loop-left.left ≡ c.loop-left.left - 1 + 1
 above c = omega arith
 
-pub overflow_cast-result : goal.overflow_cast-result
-overflow_cast-result c = record { fits = lt_of_le_of_lt (leading_le 64 _) (lit< tt) }
-
-pub overflow_sub-result : goal.overflow_sub-result
-overflow_sub-result c = omega arith
-
-pub overflow_add-result : goal.overflow_add-result
-overflow_add-result c = omega (arith, counted c.before.before, stops c.before)
-
 pub returns-then-rest-ne0 : goal.returns-then-rest-ne0
 returns-then-rest-ne0 c =
     let l = c in
@@ -107,15 +73,6 @@ returns-then-rest-ne0 c =
       ap (λ (m : ℕ). run_below s.args.marked m (lent_value s.args.words.now)) (above c.before.before),
       word-stop _ (lent s.args.words.now) s.args.marked (l.loop-left.left - 1) (stops c.before),
     )
-
-pub overflow_add-left : goal.overflow_add-left
-overflow_add-left c = omega arith
-
-pub overflow_sub-left : goal.overflow_sub-left
-overflow_sub-left c = omega arith
-
-pub loop-left-smaller : goal.loop-left-smaller
-loop-left-smaller c = omega arith
 
 pub loop-left-preserved : goal.loop-left-preserved
 loop-left-preserved c =

@@ -20,7 +20,7 @@ use Rattle.ack.proofs.walk.put_frame.Goals.{Start}
 
 -- what is reported
 abbrev marks : Start → Seen
-marks c = marks_from c.args.words.now c.args.end c.args.least
+marks c = marks_from c.args.words.now c.args.told.end c.args.told.least
 
 started : (c : Start) → Begun (marks c)
 started c = begun (marks c) c.requires.0 c.requires.1
@@ -32,11 +32,11 @@ found c = first-is (started c) c.args.first c.requires.4
 abbrev heading : Start → List ℕ
 heading c = head_bytes (started c) c.requires.2 c.args.tail (found c)
 
-long : (c : Start) → (length (heading c) + width_of (c.args.first - 1) ≡ base (marks c) c.args.delay) × (base (marks c) c.args.delay + width_of c.args.most ≤ c.args.room)
+long : (c : Start) → (length (heading c) + width_of (c.args.first - 1) ≡ base (marks c) c.args.told.delay) × (base (marks c) c.args.told.delay + width_of c.args.most ≤ c.args.told.room)
 long c = ((head-long (started c) c.requires.2 c.args.tail (found c)).1, head-fits (started c) c.requires.2 c.requires.6 c.requires.5)
 
 headed : (c : Start) {k n : ℕ} {ys : List ℕ} → k ≡ type_of c.args.tail
-    → (n ≡ length (encode_all (k ∷ (c.args.end - 1) ∷ c.args.delay ∷ []))) × (ys ≡ splice c.args.buf.now 0 (encode_all (k ∷ (c.args.end - 1) ∷ c.args.delay ∷ [])))
+    → (n ≡ length (encode_all (k ∷ (c.args.told.end - 1) ∷ c.args.told.delay ∷ []))) × (ys ≡ splice c.args.buf.now 0 (encode_all (k ∷ (c.args.told.end - 1) ∷ c.args.told.delay ∷ [])))
     → (n ≡ length (heading c)) × (ys ≡ splice c.args.buf.now 0 (heading c))
 headed c e h = rw e at h
 
@@ -46,10 +46,10 @@ place_from c = length (heading c) + width_of c.args.most + width_of (c.args.firs
 
 -- the walk, below the place where the first range ends
 walked : (c : Start) (from : ℕ) (xs : List ℕ) {end count : ℕ} {over : Bool} {ys : List ℕ}
-    → Answer (marks c) c.args.delay c.args.room c.args.most from (1024 - c.args.first) xs ys end count over
-    → Answer (marks c) c.args.delay c.args.room c.args.most from (low (marks c) 1024) xs ys end count over
+    → Answer (marks c) c.args.told.delay c.args.told.room c.args.most from (1024 - c.args.first) xs ys end count over
+    → Answer (marks c) c.args.told.delay c.args.told.room c.args.most from (low (marks c) 1024) xs ys end count over
 walked c from xs {end} {count} {over} {ys} a =
-    subst (λ (x : ℕ). Answer (marks c) c.args.delay c.args.room c.args.most from x xs ys end count over) (first_ends (started c) (ap (λ (x : ℕ). 1024 - x) c.requires.4)) a
+    subst (λ (x : ℕ). Answer (marks c) c.args.told.delay c.args.told.room c.args.most from x xs ys end count over) (first_ends (started c) (ap (λ (x : ℕ). 1024 - x) c.requires.4)) a
 
 -- what was put, by the head's length
 placed : (c : Start) (xs : List ℕ) {n w : ℕ} {ys : List ℕ} → n ≡ length (heading c) → w ≡ width_of c.args.most
@@ -59,7 +59,7 @@ placed c xs {n} {w} e f h =
     h ∙ ap (λ (x : ℕ). splice xs x (encode (c.args.first - 1))) g
 
 behind : (c : Start) (xs : List ℕ) {from end count : ℕ} {over : Bool} {ys : List ℕ} → from ≡ place_from c
-    → Answer (marks c) c.args.delay c.args.room c.args.most from (low (marks c) 1024) xs ys end count over
+    → Answer (marks c) c.args.told.delay c.args.told.room c.args.most from (low (marks c) 1024) xs ys end count over
     → (ys ≡ splice xs (place_from c) (encode_all (fields (marks c) count (low (marks c) 1024)))) × (end ≡ place_from c + bytes_below (marks c) count (low (marks c) 1024))
 behind c xs {count = count} f w =
     (w.1 ∙ ap (λ (x : ℕ). splice xs x (encode_all (fields (marks c) count (low (marks c) 1024)))) f, omega (arith, w.0, f))
@@ -73,7 +73,7 @@ pub overflow_add-count_at : goal.overflow_add-count_at
 overflow_add-count_at c =
     let o = (goal.at.overflow_add-count_at c).Start in
     let h = headed o c.type_of.ensures c.put_head-count_at.ensures in
-    omega (arith, narrow _ c.width.ensures, h.0, long o, c.requires.3, c.ranges.room.fits)
+    omega (arith, narrow _ c.width.ensures, h.0, long o, c.requires.3)
 
 pub overflow_sub-first : goal.overflow_sub-first
 overflow_sub-first c = let o = (goal.at.overflow_sub-first c).Start in omega (arith, first-size (started o), found o)

@@ -17,11 +17,11 @@ use Rattle.ack.proofs.Ends.{cut_at}
 use Rattle.ack.proofs.Fitting.{narrow, first-size, step-sizes}
 use Rattle.ack.proofs.Walking.{Answer, first_ends, walk_begins, walk-all, walk-full, walk-over, walk-next}
 use Rattle.ack.proofs.walk.put_ranges.Goals as goal
-use Rattle.ack.proofs.walk.put_ranges.Goals.{Else-range-eq0, Else-room-after, Start}
+use Rattle.ack.proofs.walk.put_ranges.Goals.{Else-range-eq0, Else-told-after, Start}
 
 -- what is reported
 abbrev marks : Start → Seen
-marks c = marks_from c.args.words.now c.args.end c.args.least
+marks c = marks_from c.args.words.now c.args.told.end c.args.told.least
 
 started : (c : Start) → Begun (marks c)
 started c = begun (marks c) c.requires.0 c.requires.1
@@ -34,16 +34,16 @@ holds c = ⊎_elim (λ q. omega (arith, q)) (λ q. omega (arith, q.0)) c.require
 
 -- the answer, below the place that the code was given
 answers : (c : Start) {ys : List ℕ} {end count : ℕ} {over : Bool}
-    → Answer (marks c) c.args.delay c.args.room c.args.most c.args.from (low (marks c) 1024) c.args.buf.now ys end count over
-    → Answer (marks c) c.args.delay c.args.room c.args.most c.args.from c.args.low c.args.buf.now ys end count over
+    → Answer (marks c) c.args.told.delay c.args.told.room c.args.most c.args.from (low (marks c) 1024) c.args.buf.now ys end count over
+    → Answer (marks c) c.args.told.delay c.args.told.room c.args.most c.args.from c.args.low c.args.buf.now ys end count over
 answers c {ys} {end} {count} {over} a =
-    subst (λ (p : ℕ). Answer (marks c) c.args.delay c.args.room c.args.most c.args.from p c.args.buf.now ys end count over) (sym (starts c)) a
+    subst (λ (p : ℕ). Answer (marks c) c.args.told.delay c.args.told.room c.args.most c.args.from p c.args.buf.now ys end count over) (sym (starts c)) a
 
 -- the range that a turn found
 another : (c : Else-range-eq0)
-    → (c.range_at-range.result.missing ≡ missing (marks_from c.args.words.now c.args.end c.args.least) c.loop-place.place)
-    × (c.range_at-range.result.size ≡ size (marks_from c.args.words.now c.args.end c.args.least) c.loop-place.place)
-another c = let a = c.args in ranged a.words.now a.end a.least c.loop-place.place _ _ (c.range_at-range.ensures.0, c.range_at-range.ensures.1)
+    → (c.range_at-range.result.missing ≡ missing (marks_from c.args.words.now c.args.told.end c.args.told.least) c.loop-place.place)
+    × (c.range_at-range.result.size ≡ size (marks_from c.args.words.now c.args.told.end c.args.told.least) c.loop-place.place)
+another c = let a = c.args in ranged a.words.now a.told.end a.told.least c.loop-place.place _ _ (c.range_at-range.ensures.0, c.range_at-range.ensures.1)
 
 sizes : (c : Else-range-eq0)
     → (0 < c.range_at-range.result.missing) × (0 < c.range_at-range.result.size)
@@ -52,11 +52,11 @@ sizes : (c : Else-range-eq0)
 sizes c =
     let a = c.args in
     let w = c.loop-place.invariant.0 in
-    let x = step-sizes (begun (marks_from a.words.now a.end a.least) c.requires.0 c.requires.1) c.requires.2 w.counted (another c).0 (another c).1 c.if-range-eq0.false in
+    let x = step-sizes (begun (marks_from a.words.now a.told.end a.told.least) c.requires.0 c.requires.1) c.requires.2 w.counted (another c).0 (another c).1 c.if-range-eq0.false in
     (x.0, x.1, x.2, w.counted.at.below)
 
-fits : (c : Else-room-after) → c.loop-place.at + width_of (c.range_at-range.result.missing - 1) + width_of (c.range_at-range.result.size - 1) ≤ c.args.room
-fits c = omega (arith, c.short_width.ensures, c.short_width-in-loop-place.ensures, c.if-room-after.false)
+fits : (c : Else-told-after) → c.loop-place.at + width_of (c.range_at-range.result.missing - 1) + width_of (c.range_at-range.result.size - 1) ≤ c.args.told.room
+fits c = omega (arith, c.short_width.ensures, c.short_width-in-loop-place.ensures, c.if-told-after.false)
 
 pub others_in-word-requires : goal.others_in-word-requires
 others_in-word-requires c = omega (arith, c.requires.4, first-size (started (goal.at.others_in-word-requires c).Start), first-is (started (goal.at.others_in-word-requires c).Start) _ refl)
@@ -94,29 +94,29 @@ pub short_width-requires : goal.short_width-requires
 short_width-requires c = omega (arith, sizes (goal.at.short_width-requires c).Else-range-eq0)
 
 pub overflow_add-after : goal.overflow_add-after
-overflow_add-after c = omega (arith, narrow _ c.short_width.ensures, c.loop-place.invariant.0.within, c.requires.3, c.ranges.room.fits)
+overflow_add-after c = omega (arith, narrow _ c.short_width.ensures, c.loop-place.invariant.0.within, c.requires.3)
 
 pub short_width-requires-in-loop-place : goal.short_width-requires-in-loop-place
 short_width-requires-in-loop-place c = omega (arith, sizes (goal.at.short_width-requires-in-loop-place c).Else-range-eq0)
 
 pub overflow_add-after-in-loop-place : goal.overflow_add-after-in-loop-place
 overflow_add-after-in-loop-place c =
-    omega (arith, narrow _ c.short_width.ensures, narrow _ c.short_width-in-loop-place.ensures, c.loop-place.invariant.0.within, c.requires.3, c.ranges.room.fits)
+    omega (arith, narrow _ c.short_width.ensures, narrow _ c.short_width-in-loop-place.ensures, c.loop-place.invariant.0.within, c.requires.3)
 
 pub returns-then-count-most : goal.returns-then-count-most
 returns-then-count-most c =
     let o = (goal.at.returns-then-count-most c).Start in
     let r = another (goal.at.returns-then-count-most c).Else-range-eq0 in
     answers o
-    (walk-over (started o) c.requires.2 c.loop-place.invariant.0 r.0 r.1 c.if-range-eq0.false c.requires.7 (fits (goal.at.returns-then-count-most c).Else-room-after) c.if-count-most.true c.short_width.ensures c.short_width-in-loop-place.ensures)
+    (walk-over (started o) c.requires.2 c.loop-place.invariant.0 r.0 r.1 c.if-range-eq0.false c.requires.7 (fits (goal.at.returns-then-count-most c).Else-told-after) c.if-count-most.true c.short_width.ensures c.short_width-in-loop-place.ensures)
 
 pub put_short-next-requires : goal.put_short-next-requires
 put_short-next-requires c =
-    (omega (arith, sizes (goal.at.put_short-next-requires c).Else-range-eq0), omega (arith, fits (goal.at.put_short-next-requires c).Else-room-after, c.loop-place.invariant.0.long, c.requires.3))
+    (omega (arith, sizes (goal.at.put_short-next-requires c).Else-range-eq0), omega (arith, fits (goal.at.put_short-next-requires c).Else-told-after, c.loop-place.invariant.0.long, c.requires.3))
 
 pub put_short-at-requires : goal.put_short-at-requires
 put_short-at-requires c =
-    (omega (arith, sizes (goal.at.put_short-at-requires c).Else-range-eq0), omega (arith, fits (goal.at.put_short-at-requires c).Else-room-after, c.loop-place.invariant.0.long, c.requires.3, c.put_short-next.ensures.0, c.put_short-next.auto.buf))
+    (omega (arith, sizes (goal.at.put_short-at-requires c).Else-range-eq0), omega (arith, fits (goal.at.put_short-at-requires c).Else-told-after, c.loop-place.invariant.0.long, c.requires.3, c.put_short-next.ensures.0, c.put_short-next.auto.buf))
 
 pub overflow_sub-place : goal.overflow_sub-place
 overflow_sub-place c = omega (arith, sizes (goal.at.overflow_sub-place c).Else-range-eq0)
@@ -134,7 +134,7 @@ pub loop-place-preserved : goal.loop-place-preserved
 loop-place-preserved c =
     let o = (goal.at.loop-place-preserved c).Start in
     let r = another (goal.at.loop-place-preserved c).Else-range-eq0 in (
-      walk-next (started o) c.requires.2 c.loop-place.invariant.0 r.0 r.1 c.if-range-eq0.false (fits (goal.at.loop-place-preserved c).Else-room-after) c.if-count-most.false (holds o) c.requires.3
+      walk-next (started o) c.requires.2 c.loop-place.invariant.0 r.0 r.1 c.if-range-eq0.false (fits (goal.at.loop-place-preserved c).Else-told-after) c.if-count-most.false (holds o) c.requires.3
           c.put_short-next.ensures.0 c.put_short-next.ensures.1 c.put_short-at.ensures.0 c.put_short-at.ensures.1 c.put_short-next.auto.buf c.put_short-at.auto.buf,
       c.range_at-range.ensures.2,
     )
@@ -143,19 +143,19 @@ pub returns-after-loop-place : goal.returns-after-loop-place
 returns-after-loop-place c =
     let o = (goal.at.returns-after-loop-place c).Start in
     answers o
-    (walk-all (started o) c.requires.2 c.loop-place.invariant.0 (nothing-below c.args.words.now c.args.end c.args.least c.loop-place.place c.loop-place-test.false))
+    (walk-all (started o) c.requires.2 c.loop-place.invariant.0 (nothing-below c.args.words.now c.args.told.end c.args.told.least c.loop-place.place c.loop-place-test.false))
 
 pub returns-then-range-eq0 : goal.returns-then-range-eq0
 returns-then-range-eq0 c =
     let o = (goal.at.returns-then-range-eq0 c).Start in
     let a = c.args in
-    let r = ranged a.words.now a.end a.least c.loop-place.place _ _ (c.range_at-range.ensures.0, c.range_at-range.ensures.1) in
+    let r = ranged a.words.now a.told.end a.told.least c.loop-place.place _ _ (c.range_at-range.ensures.0, c.range_at-range.ensures.1) in
     answers o
     (walk-all (started o) c.requires.2 c.loop-place.invariant.0 (size_none (marks o) c.loop-place.place (omega (arith, r.1, c.if-range-eq0.true))))
 
-pub returns-then-room-after : goal.returns-then-room-after
-returns-then-room-after c =
-    let o = (goal.at.returns-then-room-after c).Start in
-    let r = another (goal.at.returns-then-room-after c).Else-range-eq0 in
+pub returns-then-told-after : goal.returns-then-told-after
+returns-then-told-after c =
+    let o = (goal.at.returns-then-told-after c).Start in
+    let r = another (goal.at.returns-then-told-after c).Else-range-eq0 in
     answers o
-    (walk-full (started o) c.requires.2 c.loop-place.invariant.0 r.0 r.1 c.if-range-eq0.false c.requires.7 (omega (arith, c.if-room-after.true, c.short_width.ensures, c.short_width-in-loop-place.ensures)))
+    (walk-full (started o) c.requires.2 c.loop-place.invariant.0 r.0 r.1 c.if-range-eq0.false c.requires.7 (omega (arith, c.if-told-after.true, c.short_width.ensures, c.short_width-in-loop-place.ensures)))

@@ -9,7 +9,7 @@ use Rattle.ack.proofs.walk.put_ranges.Given as goal
 
 abbrev pub invariant-loop-place : goal.invariant-loop-place
 invariant-loop-place l =
-    Walking (marks_from l.words l.end l.least) l.delay l.room l.most l.from l.initial.buf l.buf l.at l.place l.count × (l.least < l.place → Others false (lent_value l.words) l.place l.index l.left)
+    Walking (marks_from l.words l.told.end l.told.least) l.told.delay l.told.room l.most l.from l.initial.buf l.buf l.at l.place l.count × (l.told.least < l.place → Others false (lent_value l.words) l.place l.index l.left)
 
 abbrev pub decreases-loop-place : goal.decreases-loop-place
 decreases-loop-place l = l.place

@@ -3,4 +3,4 @@
 use Rattle.call_log.proofs.calls.answered.Goals as goal
 
 pub returns : goal.returns
-returns c = rw c.verdict_of-verdict.ensures
+returns c = rw c.verdict_of.ensures

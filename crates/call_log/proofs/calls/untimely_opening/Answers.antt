@@ -7,4 +7,4 @@ use Rattle.call_log.proofs.calls.untimely_opening.Goals as goal
 
 pub returns : goal.returns
 unfolding open_call open_refusal limits_rule
-returns c = c.answered.ensures ∙ rw c.open-opened.ensures
+returns c = c.answered.ensures ∙ rw (c.number.ensures, c.open-opened.ensures)

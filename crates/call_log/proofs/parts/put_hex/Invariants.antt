@@ -1,6 +1,6 @@
 -- `call_log::put_hex` meets its contract.
 -- Assumes nothing.
-use Prim.Native.Nat.{◌+◌, ◌-◌, ◌≤◌}
+use Prim.Native.Nat.{◌+◌, ◌≤◌}
 use mathlib.Core.Path.{◌≡◌}
 use Prim.Native.Nat.{◌*◌}
 use lib.ListN.{length, drop}
@@ -10,6 +10,3 @@ use Rattle.call_log.proofs.parts.put_hex.Given as goal
 
 abbrev pub invariant-loop-i : goal.invariant-loop-i
 invariant-loop-i l = (l.i ≤ length l.bytes) × (l.to ≡ l.at + 2 * l.i) × (splice l.buf l.to (hex_text (drop l.i l.bytes)) ≡ splice l.initial.buf l.at (hex_text l.bytes)) × (length l.buf ≡ length l.initial.buf)
-
-abbrev pub decreases-loop-i : goal.decreases-loop-i
-decreases-loop-i l = length l.bytes - l.i

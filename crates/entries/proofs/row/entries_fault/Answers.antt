@@ -1,7 +1,9 @@
 -- `entries::entries_fault` meets its contract: each branch is one test of the definition.
 -- Assumes nothing.
-use Rattle.std.proofs.Common.{Bool, sym, ap, ◌∙◌, rules}
+use Rattle.std.proofs.Common.{Bool, Result, Ok, Err, sym, ap, ◌∙◌, rules}
 use Rattle.wire.specs.Bytes.{pick}
+use Rattle.wire.specs.declared.Refusal.{Refusal}
+use Rattle.wire.specs.declared.Refusal.TheVariants.{BrokenEntry}
 use Rattle.entries.proofs.Records.{no_more, fault-ragged, fault-many, fault-records}
 use Rattle.entries.proofs.row.entries_fault.Goals as goal
 
@@ -33,7 +35,7 @@ returns-then-not-entries_good c =
     let n = c.records_in-n in
     let z = c.record_size in
     let g = c.entries_good in
-    ap (λ (b : Bool). pick b 0 12) (sym c.if-not-entries_good.true) ∙ fault-records a.profile a.entries.now n.result n.ensures z.result z.ensures c.if-n-record_size.false c.if-n-gt-MOST_GIVEN.false g.result g.ensures
+    ap (λ (b : Bool). pick {A = Result Unit Refusal} b (Ok tt) (Err BrokenEntry)) (sym c.if-not-entries_good.true) ∙ fault-records a.profile a.entries.now n.result n.ensures z.result z.ensures c.if-n-record_size.false c.if-n-gt-MOST_GIVEN.false g.result g.ensures
 
 pub returns : goal.returns
 returns c =
@@ -41,4 +43,4 @@ returns c =
     let n = c.records_in-n in
     let z = c.record_size in
     let g = c.entries_good in
-    ap (λ (b : Bool). pick b 0 12) (sym c.if-not-entries_good.false) ∙ fault-records a.profile a.entries.now n.result n.ensures z.result z.ensures c.if-n-record_size.false c.if-n-gt-MOST_GIVEN.false g.result g.ensures
+    ap (λ (b : Bool). pick {A = Result Unit Refusal} b (Ok tt) (Err BrokenEntry)) (sym c.if-not-entries_good.false) ∙ fault-records a.profile a.entries.now n.result n.ensures z.result z.ensures c.if-n-record_size.false c.if-n-gt-MOST_GIVEN.false g.result g.ensures

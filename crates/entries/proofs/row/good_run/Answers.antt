@@ -10,7 +10,7 @@ pub returns-then-run-eq0 : goal.returns-then-run-eq0
 returns-then-run-eq0 c =
     let a = c.args in
     let r = c.run_from-run in
-    let low = r.ensures ∙ ap (λ (m : ℕ). run_of a.profile a.last m a.entries.now) c.at_most.ensures in
+    let low = r.ensures ∙ ap (λ (m : ℕ). run_of a.profile a.last m a.entries.now) c.min.ensures in
     let all = run-low a.profile a.last a.above (length a.entries.now / record_size a.profile) a.entries.now r.result low in
     c.run_to.ensures ∙ (rw (eq-eqb r.result.good 0 c.if-run-eq0.true) at all)
 
@@ -18,6 +18,6 @@ pub returns : goal.returns
 returns c =
     let a = c.args in
     let r = c.run_from-run in
-    let low = r.ensures ∙ ap (λ (m : ℕ). run_of a.profile a.last m a.entries.now) c.at_most.ensures in
+    let low = r.ensures ∙ ap (λ (m : ℕ). run_of a.profile a.last m a.entries.now) c.min.ensures in
     let all = run-low a.profile a.last a.above (length a.entries.now / record_size a.profile) a.entries.now r.result low in
     rw (ne_eqb r.result.good 0 c.if-run-eq0.false) at all

@@ -1,15 +1,12 @@
--- `events::answer` meets its contract: a short record gives 2, and any other is the call of its event.
+-- `events::answer` meets its contract: a short record gives its refusal, and any other is the call of its event.
 -- Assumes nothing.
 use Rattle.events.specs.Events.{record_call}
 use Rattle.events.proofs.calls.answer.Goals as goal
 
-pub returns-in_default : goal.returns-in_default
+pub returns-in-Ok : goal.returns-in-Ok
 unfolding record_call
-returns-in_default c =
-    let e = c.read_event.ensures in
-    rw (← e, c.in_default.is)
+returns-in-Ok c = rw (← c.read_event.ensures, c.in-Ok.is) c.call.ensures
 
-pub returns : goal.returns
+pub returns-in-Err : goal.returns-in-Err
 unfolding record_call
-returns c =
-    rw (← c.read_event.ensures, c.in-Whole.is) c.call.ensures
+returns-in-Err c = rw (← c.read_event.ensures, c.in-Err.is, c.number.ensures)

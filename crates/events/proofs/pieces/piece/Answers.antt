@@ -22,8 +22,8 @@ index-left t = has-index _ _ _ _ _ t.count_of-count.ensures t.loop-i-test.true
 pub loop-i-init : goal.loop-i-init
 loop-i-init c = begun _ _ _ _ _
 
-pub overflow_mul-start : goal.overflow_mul-start
-overflow_mul-start c = omega (arith, bytes_left (goal.at.overflow_mul-start c).In-loop-i)
+pub overflow_mul-i : goal.overflow_mul-i
+overflow_mul-i c = omega (arith, bytes_left (goal.at.overflow_mul-i c).In-loop-i)
 
 pub slice_bounds-step-count : goal.slice_bounds-step-count
 slice_bounds-step-count c = omega (arith, bytes_left (goal.at.slice_bounds-step-count c).In-loop-i)
@@ -39,14 +39,6 @@ overflow_add-index c = record { fits = index-left (goal.at.overflow_add-index c)
 
 pub step-stepped-requires : goal.step-stepped-requires
 step-stepped-requires c = room-left (goal.at.step-stepped-requires c).In-loop-i
-
-pub overflow_add-i : goal.overflow_add-i
-overflow_add-i c =
-    omega (arith, bytes_left (goal.at.overflow_add-i c).In-loop-i)
-
-pub loop-i-smaller : goal.loop-i-smaller
-loop-i-smaller c =
-    omega (arith, c.loop-i-test.true)
 
 pub loop-i-preserved : goal.loop-i-preserved
 loop-i-preserved c =

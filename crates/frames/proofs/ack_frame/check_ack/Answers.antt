@@ -1,16 +1,10 @@
--- `frames::ack_frame::check_ack` meets its contract: the fault of the numbers before the ranges is handed on, or what the walk and what comes after it make of them.
+-- `frames::ack_frame::check_ack` meets its contract: the fault of the numbers before the ranges is handed on.
 -- Assumes nothing.
-use Rattle.frames.proofs.Check.{checked-by, checked-walk}
+use Rattle.std.proofs.lemmas.Result.{err_from_is_err_and}
+use Rattle.frames.proofs.Check.{checked-by}
 use Rattle.frames.proofs.ack_frame.check_ack.Goals as goal
 
-pub returns-in-Ends : goal.returns-in-Ends
-returns-in-Ends c = checked-by _ c.read_header-header.ensures c.in-Ends.is
-
-pub returns-in-OtherType : goal.returns-in-OtherType
-returns-in-OtherType c = checked-by _ c.read_header-header.ensures c.in-OtherType.is
-
-pub returns-in-Numbers : goal.returns-in-Numbers
-returns-in-Numbers c =
-    let w = c in
-    let k = w in
-    checked-walk _ k.read_header-header.ensures k.in-Numbers.is w.walk_ranges-walk.ensures.0 c.check_numbers.ensures
+pub returns-in_err-header : goal.returns-in_err-header
+returns-in_err-header c =
+    let p = err_from_is_err_and c.from_residual.result c.from_residual.ensures.1 in
+    rw (p.1, p.2) (checked-by _ c.read_header.ensures c.in_err-header.was)

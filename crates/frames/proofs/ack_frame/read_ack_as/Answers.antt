@@ -1,10 +1,15 @@
 -- `frames::ack_frame::read_ack_as` meets its contract: its answer is what the numbers before the ranges lead to.
 -- Assumes nothing.
-use Rattle.frames.proofs.Answers.{both_so}
+use mathlib.Core.Path.{sym, ◌∙◌}
+use Rattle.std.proofs.lemmas.Result.{err_from_is_err_and}
+use Rattle.frames.proofs.Answers.{both, both_so}
 use Rattle.frames.proofs.Check.{read-by-as}
 use Rattle.frames.proofs.ack_frame.read_ack_as.Goals as goal
 
+pub returns-in_err-header : goal.returns-in_err-header
+returns-in_err-header c =
+    let p = err_from_is_err_and c.from_residual.result c.from_residual.ensures.1 in
+    rw (p.1, p.2) (both (read-by-as c.args.kind _ _ (sym c.in_err-header.was ∙ c.read_header_at.ensures)))
+
 pub returns : goal.returns
-returns c =
-    let b = c in
-    both_so b.read_behind.ensures (read-by-as b.args.kind _ _ b.read_header_as-header.ensures)
+returns c = both_so c.read_behind.ensures (read-by-as c.args.kind _ _ (sym c.in_ok-header.was ∙ c.read_header_at.ensures))

@@ -9,17 +9,12 @@ returns-in_default c = both (one-cut _ _ _ _ _ c.read_number.ensures c.in_defaul
 
 pub returns-then-largest-len : goal.returns-then-largest-len
 returns-then-largest-len c =
-    let k = c in
-    both (one-low _ _ _ _ _ k.read_number.ensures k.in-Value.is c.if-largest-len.true)
+    both (one-low _ _ _ _ _ c.read_number.ensures c.in-Ok.is c.if-largest-len.true)
 
 pub returns-then-ranges-lt2 : goal.returns-then-ranges-lt2
 returns-then-ranges-lt2 c =
-    let i = c in
-    let k = i in
-    both (one-no-room _ _ _ _ _ k.read_number.ensures k.in-Value.is i.if-largest-len.false c.if-ranges-lt2.true)
+    both (one-no-room _ _ _ _ _ c.read_number.ensures c.in-Ok.is c.if-largest-len.false c.if-ranges-lt2.true)
 
-pub returns-else-ranges-lt2 : goal.returns-else-ranges-lt2
-returns-else-ranges-lt2 c =
-    let i = c in
-    let k = i in
-    both (one-accepted _ _ _ _ _ k.read_number.ensures k.in-Value.is i.if-largest-len.false c.if-ranges-lt2.false)
+pub returns : goal.returns
+returns c =
+    both (one-accepted _ _ _ _ _ c.read_number.ensures c.in-Ok.is c.if-largest-len.false c.if-ranges-lt2.false)

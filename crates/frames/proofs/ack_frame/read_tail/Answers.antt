@@ -8,28 +8,18 @@ returns-then-not-counted c = tail_none _ _ c.if-not-counted.true
 
 pub returns-in_default : goal.returns-in_default
 returns-in_default c =
-    let r = c in
-    tail-cut _ _ r.if-not-counted.false r.read_number.ensures c.in_default.is
+    tail-cut _ _ c.if-not-counted.false c.read_number.ensures c.in_default.is
 
 pub returns-in_default-read_number : goal.returns-in_default-read_number
 returns-in_default-read_number c =
-    let k1 = c in
-    let r = k1 in
-    tail-cut-2 _ _ r.if-not-counted.false r.read_number.ensures k1.in-Value.is c.read_number-2.ensures c.in_default-read_number.is
+    tail-cut-2 _ _ c.if-not-counted.false c.read_number.ensures c.in-Ok.is c.read_number-2.ensures c.in_default-read_number.is
 
 pub returns-in_default-read_number-2 : goal.returns-in_default-read_number-2
 returns-in_default-read_number-2 c =
-    let k2 = c in
-    let k1 = k2 in
-    let r = k1 in
-    tail-cut-3 _ _ r.if-not-counted.false r.read_number.ensures k1.in-Value.is k2.read_number-2.ensures k2.in-Value-read_number.is
+    tail-cut-3 _ _ c.if-not-counted.false c.read_number.ensures c.in-Ok.is c.read_number-2.ensures c.in-Ok-read_number.is
     c.read_number-3.ensures c.in_default-read_number-2.is
 
 pub returns : goal.returns
 returns c =
-    let k3 = c in
-    let k2 = k3 in
-    let k1 = k2 in
-    let r = k1 in
-    tail-whole _ _ r.if-not-counted.false r.read_number.ensures k1.in-Value.is k2.read_number-2.ensures k2.in-Value-read_number.is
-    k3.read_number-3.ensures k3.in-Value-read_number-2.is
+    tail-whole _ _ c.if-not-counted.false c.read_number.ensures c.in-Ok.is c.read_number-2.ensures c.in-Ok-read_number.is
+    c.read_number-3.ensures c.in-Ok-read_number-2.is

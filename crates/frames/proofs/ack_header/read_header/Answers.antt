@@ -1,29 +1,15 @@
--- `frames::ack_header::read_header` meets its contract: the type's number is cut, another one, too long or right, and then come the fields.
+-- `frames::ack_header::read_header` meets its contract: the type's fault is handed on, or what stands behind the type is read by it.
 -- Assumes nothing.
-use mathlib.Core.Path.{sym, ◌∙◌}
+use mathlib.Core.Path.{◌∙◌}
+use Rattle.std.proofs.lemmas.Result.{err_from_is_err_and}
 use Rattle.frames.specs.Types.{ack_types}
-use Rattle.frames.proofs.Types.{type-cut, type-other, type-longer, type-right}
+use Rattle.frames.proofs.Types.{type_in}
 use Rattle.frames.proofs.ack_header.read_header.Goals as goal
 
-pub returns-in_default : goal.returns-in_default
-returns-in_default c = type-cut ack_types _ _ _ _ c.read_number.ensures c.in_default.is
-
-pub returns-then-not-is_ack : goal.returns-then-not-is_ack
-returns-then-not-is_ack c =
-    let i = c in
-    let k = i in
-    type-other ack_types _ _ _ _ k.read_number.ensures k.in-Value.is (sym i.is_ack.ensures ∙ c.if-not-is_ack.true)
-
-pub returns-then-not-shortest : goal.returns-then-not-shortest
-returns-then-not-shortest c =
-    let i = c in
-    let k = i in
-    type-longer ack_types _ _ _ _ k.read_number.ensures k.in-Value.is (sym i.is_ack.ensures ∙ c.if-not-is_ack.false) c.if-not-shortest.true
+pub returns-in_err-kind : goal.returns-in_err-kind
+returns-in_err-kind c =
+    let p = err_from_is_err_and c.from_residual.result c.from_residual.ensures.1 in
+    rw (p.1, p.2) (type_in ack_types _ _ c.read_type.ensures c.in_err-kind.was)
 
 pub returns : goal.returns
-returns c =
-    let t = c in
-    let i = t in
-    let k = i in
-    type-right ack_types _ _ _ _ k.read_number.ensures k.in-Value.is (sym i.is_ack.ensures ∙ t.if-not-is_ack.false)
-    t.if-not-shortest.false c.read_header_at.ensures
+returns c = c.read_header_at.ensures ∙ type_in ack_types _ _ c.read_type.ensures c.in_ok-kind.was

@@ -9,49 +9,29 @@ use Rattle.frames.proofs.ack_ranges.read_range.Goals as goal
 
 pub returns-in_default : goal.returns-in_default
 returns-in_default c =
-    let a = c in
-    length_cut _ _ _ _ a.read_number.ensures c.in_default.is
+    length_cut _ _ _ _ c.read_number.ensures c.in_default.is
 
 pub returns-then-largest-len : goal.returns-then-largest-len
 returns-then-largest-len c =
-    let k = c in
-    let a = k in
-    length-low _ _ _ _ a.read_number.ensures k.in-Value.is (omega (arith, c.if-largest-len.true))
+    length-low _ _ _ _ c.read_number.ensures c.in-Ok.is (omega (arith, c.if-largest-len.true))
 
 pub returns-then-left-eq0 : goal.returns-then-left-eq0
 returns-then-left-eq0 c =
-    let k = c in
-    let a = k in
-    last _ _ _ _ a.read_number.ensures k.in-Value.is c.if-left-eq0.true c.if-largest-len.false
+    last _ _ _ _ c.read_number.ensures c.in-Ok.is c.if-left-eq0.true c.if-largest-len.false
 
 pub returns-in_default-read_number : goal.returns-in_default-read_number
 returns-in_default-read_number c =
-    let b = c in
-    let k = b in
-    let a = k in
-    gap-cut _ _ _ _ a.read_number.ensures k.in-Value.is b.read_number-2.ensures (some b.if-left-eq0.false) b.if-largest-len.false c.in_default-read_number.is
+    gap-cut _ _ _ _ c.read_number.ensures c.in-Ok.is c.read_number-2.ensures (some c.if-left-eq0.false) c.if-largest-len.false c.in_default-read_number.is
 
 pub overflow_add-gap : goal.overflow_add-gap
 overflow_add-gap c =
-    let g = c in
-    let b = g in
-    let k = b in
-    let w = k.shared_slice_known-1 in
-    let n = k.in-Value.next in
-    omega (arith, accepted-small _ n _ _ (λ i. (w.given i).fits) (sym b.read_number-2.ensures ∙ g.in-Value-read_number.is))
+    let n = c.in-Ok.field-0.next in
+    omega (arith, accepted-small _ n _ _ (λ i. (c.type_inv.s i).fits) (sym c.read_number-2.ensures ∙ c.in-Ok-read_number.is))
 
 pub returns-then-smallest-gap : goal.returns-then-smallest-gap
 returns-then-smallest-gap c =
-    let g = c in
-    let b = g in
-    let k = b in
-    let a = k in
-    gap-low _ _ _ _ a.read_number.ensures k.in-Value.is b.read_number-2.ensures (some b.if-left-eq0.false) b.if-largest-len.false g.in-Value-read_number.is (omega (arith, c.if-smallest-gap.true))
+    gap-low _ _ _ _ c.read_number.ensures c.in-Ok.is c.read_number-2.ensures (some c.if-left-eq0.false) c.if-largest-len.false c.in-Ok-read_number.is (omega (arith, c.if-smallest-gap.true))
 
 pub returns : goal.returns
 returns c =
-    let g = c in
-    let b = g in
-    let k = b in
-    let a = k in
-    more _ _ _ _ a.read_number.ensures k.in-Value.is b.read_number-2.ensures (some b.if-left-eq0.false) b.if-largest-len.false g.in-Value-read_number.is (omega (arith, c.if-smallest-gap.false))
+    more _ _ _ _ c.read_number.ensures c.in-Ok.is c.read_number-2.ensures (some c.if-left-eq0.false) c.if-largest-len.false c.in-Ok-read_number.is (omega (arith, c.if-smallest-gap.false))

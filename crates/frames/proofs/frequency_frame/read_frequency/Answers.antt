@@ -1,27 +1,16 @@
--- `frames::frequency_frame::read_frequency` meets its contract: the type's number is cut, another one, too long or right, and then come its four numbers.
+-- `frames::frequency_frame::read_frequency` meets its contract: the type's fault is handed on, or what stands behind the type is read by it.
 -- Assumes nothing.
+use mathlib.Core.Path.{◌∙◌}
 use mathlib.Core.List.{[], ◌∷◌}
+use Rattle.std.proofs.lemmas.Result.{err_from_is_err_and}
 use Rattle.frames.specs.Types.{frequency_type}
-use Rattle.frames.proofs.Types.{only, another, type-cut, type-other, type-longer, type-right}
+use Rattle.frames.proofs.Types.{type_in}
 use Rattle.frames.proofs.frequency_frame.read_frequency.Goals as goal
 
-pub returns-in_default : goal.returns-in_default
-returns-in_default c = type-cut (frequency_type ∷ []) _ _ _ _ c.read_number.ensures c.in_default.is
-
-pub returns-then-kind-ne-ACK_FREQUENCY : goal.returns-then-kind-ne-ACK_FREQUENCY
-returns-then-kind-ne-ACK_FREQUENCY c =
-    let k = c in
-    type-other (frequency_type ∷ []) _ _ _ _ k.read_number.ensures k.in-Value.is (another c.if-kind-ne-ACK_FREQUENCY.true)
-
-pub returns-then-not-shortest : goal.returns-then-not-shortest
-returns-then-not-shortest c =
-    let k = c in
-    type-longer (frequency_type ∷ []) _ _ _ _ k.read_number.ensures k.in-Value.is (only c.if-kind-ne-ACK_FREQUENCY.false)
-    c.if-not-shortest.true
+pub returns-in_err-kind : goal.returns-in_err-kind
+returns-in_err-kind c =
+    let p = err_from_is_err_and c.from_residual.result c.from_residual.ensures.1 in
+    rw (p.1, p.2) (type_in (frequency_type ∷ []) _ _ c.read_type.ensures c.in_err-kind.was)
 
 pub returns : goal.returns
-returns c =
-    let t = c in
-    let k = t in
-    type-right (frequency_type ∷ []) _ _ _ _ k.read_number.ensures k.in-Value.is (only t.if-kind-ne-ACK_FREQUENCY.false)
-    t.if-not-shortest.false c.read_thresholds.ensures
+returns c = c.read_behind.ensures ∙ type_in (frequency_type ∷ []) _ _ c.read_type.ensures c.in_ok-kind.was

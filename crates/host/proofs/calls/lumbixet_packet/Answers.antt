@@ -3,4 +3,4 @@
 use Rattle.host.proofs.calls.lumbixet_packet.Goals as goal
 
 pub returns : goal.returns
-returns c = rw c.mark_of-mark.ensures at c.packet.ensures
+returns c = rw c.from-mark.ensures at c.packet.ensures

@@ -3,4 +3,4 @@
 use Rattle.host.proofs.calls.lumbixet_write.Goals as goal
 
 pub returns : goal.returns
-returns c = (rw c.kind_of-kind.ensures at c.write.ensures.0, rw c.kind_of-kind.ensures at c.write.ensures.1)
+returns c = (rw c.from-kind.ensures at c.write.ensures.0, rw c.from-kind.ensures at c.write.ensures.1)

@@ -4,8 +4,5 @@ use mathlib.Core.Path.{◌≡◌}
 use Rattle.newest.specs.Search.{searched, newest_in}
 use Rattle.newest.proofs.search.search.Given as goal
 
-abbrev pub invariant-loop-left : goal.invariant-loop-left
-invariant-loop-left l = searched l.profile l.records l.left l.top l.next ≡ newest_in l.profile l.records l.count
-
-abbrev pub decreases-loop-left : goal.decreases-loop-left
-decreases-loop-left l = l.left
+abbrev pub invariant-loop-index : goal.invariant-loop-index
+invariant-loop-index l = searched l.profile l.records l.index l.top l.next ≡ newest_in l.profile l.records l.count

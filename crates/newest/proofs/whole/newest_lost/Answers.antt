@@ -1,16 +1,19 @@
--- `newest::newest_lost` meets its contract: the number is that of the arm's profile, or of none.
+-- `newest::newest_lost` meets its contract: the number is that of a profile, or the refusal is that for one that is not.
 -- Assumes nothing.
-use borrow.Author.Tests.{ne_eqb}
-use native.Mathlib.Omega.{arith}
+use Rattle.std.proofs.Common.{Err, ◌∙◌}
+use Rattle.std.proofs.lemmas.Result.{err_from_is_err_and}
+use Rattle.wire.specs.declared.Refusal.TheVariants.{OtherProfile}
+use Rattle.entries.proofs.Profiles.{by-known, by-other, other-is}
+use Rattle.newest.specs.Newest.{newest_lost}
 use Rattle.newest.proofs.whole.newest_lost.Goals as goal
 
-pub returns-in-1 : goal.returns-in-1
-returns-in-1 c = rw c.in-1.is c.newest_as.ensures
+pub returns-in_err-profile : goal.returns-in_err-profile
+returns-in_err-profile c =
+    let a = c.args in
+    let p = err_from_is_err_and c.from_residual.result c.from_residual.ensures.1 in
+    rw (p.1, p.2, other-is a.profile _ c.try_from.ensures _ c.in_err-profile.was) (by-other a.profile (Err OtherProfile) (λ p. newest_lost p a.s.now) _ c.try_from.ensures _ c.in_err-profile.was)
 
-pub returns-in-2 : goal.returns-in-2
-returns-in-2 c = rw c.in-2.is c.newest_as-in-2.ensures
-
-pub returns-in_default : goal.returns-in_default
-returns-in_default c =
-    let n = c.args.profile in
-    rw (ne_eqb n 1 (omega arith), ne_eqb n 2 (omega arith))
+pub returns : goal.returns
+returns c =
+    let a = c.args in
+    c.newest_as.ensures ∙ by-known a.profile (Err OtherProfile) (λ p. newest_lost p a.s.now) _ c.try_from.ensures _ c.in_ok-profile.was

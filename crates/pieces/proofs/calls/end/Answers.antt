@@ -9,6 +9,7 @@ use Rattle.pieces.specs.Record.{stand_in, state_in, state_of, words_of}
 use Rattle.pieces.specs.Fitness.{consistent}
 use Rattle.pieces.specs.declared.Marks.{Marks}
 use Rattle.pieces.proofs.Calling.{end-one, end-stands, end-said, sits-loaded}
+use Rattle.pieces.specs.Calls.{refused_report}
 use Rattle.pieces.proofs.calls.end.Goals as goal
 use Rattle.pieces.proofs.calls.end.Goals.{After-standing_at-stands, Else-not-consistent}
 
@@ -16,7 +17,7 @@ ok : (c : Else-not-consistent) → consistent c.args.state.now ≡ true
 ok c = sym c.consistent.ensures ∙ c.if-not-consistent.false
 
 pub returns-then-not-consistent : goal.returns-then-not-consistent
-returns-then-not-consistent c = end-one c.args.state.now (sym c.consistent.ensures ∙ c.if-not-consistent.true) _ c.refused.ensures
+returns-then-not-consistent c = end-one c.args.state.now (sym c.consistent.ensures ∙ c.if-not-consistent.true) _ (c.refused.ensures ∙ ap refused_report c.number.ensures)
 
 -- what stands, by the words
 stands : (c : After-standing_at-stands) → c.standing_at-stands.result ≡ standing (state_of c.args.state.now)

@@ -14,19 +14,19 @@ returns-then-left-eq0 c = (λ w. rw (c.in-1.is, c.if-left-eq0.true) refl, (refl,
 
 pub returns-else-left-eq0 : goal.returns-else-left-eq0
 unfolding state_as
-returns-else-left-eq0 c = (λ w. rw c.in-1.is (sym (end-records _ _ _ _ _ c.if-left-eq0.false)), (refl, refl))
+returns-else-left-eq0 c = (λ w. rw (c.in-1.is, c.number.ensures) (sym (end-records _ _ _ _ _ c.if-left-eq0.false)), (refl, refl))
 
 pub returns-then-left-eq0-2 : goal.returns-then-left-eq0-2
 unfolding state_as at_end
-returns-then-left-eq0-2 c = (λ w. rw (c.in-2.is, c.if-left-eq0-2.true) refl, (refl, refl))
+returns-then-left-eq0-2 c = (λ w. rw (c.in-2.is, c.if-left-eq0-2.true, c.number-then-left-eq0-2.ensures) refl, (refl, refl))
 
 pub returns-else-left-eq0-2 : goal.returns-else-left-eq0-2
 unfolding state_as
-returns-else-left-eq0-2 c = (λ w. rw c.in-2.is (sym (end-counting _ _ c.if-left-eq0-2.false)), (refl, refl))
+returns-else-left-eq0-2 c = (λ w. rw (c.in-2.is, c.number.ensures) (sym (end-counting _ _ c.if-left-eq0-2.false)), (refl, refl))
 
 pub returns-in-0 : goal.returns-in-0
 unfolding state_as at_end
-returns-in-0 c = (λ w. rw c.in-0.is refl, (refl, refl))
+returns-in-0 c = (λ w. rw (c.in-0.is, c.number.ensures) refl, (refl, refl))
 
 pub returns-in-3 : goal.returns-in-3
 unfolding state_as at_end

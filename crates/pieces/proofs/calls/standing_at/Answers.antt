@@ -1,34 +1,25 @@
 -- `pieces::calls::standing_at` meets its contract, by its stage.
 -- Assumes nothing.
 use native.Mathlib.Omega.{arith}
-use mathlib.Core.Path.{refl, sym, ap}
+use mathlib.Core.Path.{refl, sym, ◌∙◌}
 use lib.ListN.{take}
-use Rattle.uncut.specs.State.{standing}
 use Rattle.pieces.specs.Record.{numbers_in, state_as}
-use Rattle.pieces.proofs.Stages.{at-accepted, stands-counting}
+use Rattle.pieces.proofs.Stages.{standing-other, stands-counting}
 use Rattle.pieces.proofs.calls.standing_at.Goals as goal
 
-pub returns-then-left-eq0 : goal.returns-then-left-eq0
+pub returns-in-2 : goal.returns-in-2
 unfolding state_as
-returns-then-left-eq0 c = λ w. rw (c.in-2.is, c.if-left-eq0.true) refl
-
-pub returns-in-0 : goal.returns-in-0
-unfolding state_as
-returns-in-0 c = λ w. rw c.in-0.is refl
-
-pub returns-in-1 : goal.returns-in-1
-unfolding state_as
-returns-in-1 c = λ w. rw c.in-1.is refl
-
-pub returns-else-left-eq0 : goal.returns-else-left-eq0
-unfolding state_as
-returns-else-left-eq0 c =
-    let s = c.args.s in
-    λ w. rw c.in-2.is (sym (stands-counting (take s.count (numbers_in w)) s.left c.if-left-eq0.false))
+returns-in-2 c = λ w. c.number.ensures ∙ rw (c.in-2.is, c.if-s-eq0.true) refl
 
 pub returns-in-3 : goal.returns-in-3
 unfolding state_as
 returns-in-3 c = λ w. rw c.in-3.is refl
 
 pub returns-in_default : goal.returns-in_default
-returns-in_default c = λ w. sym (ap standing (at-accepted _ _ _ _ _ _ (λ z. omega arith) (λ z. omega arith) (λ z. omega arith) (λ z. omega arith)))
+unfolding state_as
+returns-in_default c =
+    let s = c.args.s in
+    λ w. rw c.in-2.is (sym (stands-counting (take s.count (numbers_in w)) s.left c.if-s-eq0.false))
+
+pub returns-in_default-2 : goal.returns-in_default-2
+returns-in_default-2 c = λ w. sym (standing-other _ _ _ _ _ _ (λ z. omega arith) (λ z. omega arith))

@@ -9,6 +9,7 @@ use Rattle.pieces.specs.Record.{stand_in, state_in, state_of, moved_in, words_of
 use Rattle.pieces.specs.declared.Marks.{Marks}
 use Rattle.pieces.specs.Fitness.{consistent}
 use Rattle.pieces.proofs.Calling.{take-one, take-nine, take-stands, take-served, sits-loaded}
+use Rattle.pieces.specs.Calls.{refused_as}
 use Rattle.pieces.proofs.calls.take.Goals as goal
 use Rattle.pieces.proofs.calls.take.Goals.{After-standing_at-stands, Else-not-consistent}
 
@@ -18,13 +19,13 @@ ok c = sym c.consistent.ensures ∙ c.if-not-consistent.false
 pub returns-then-not-consistent : goal.returns-then-not-consistent
 returns-then-not-consistent c =
     let a = c.args in
-    take-one a.state.now (sym c.consistent.ensures ∙ c.if-not-consistent.true) a.part.now a.out.now _ c.nothing.ensures
+    take-one a.state.now (sym c.consistent.ensures ∙ c.if-not-consistent.true) a.part.now a.out.now _ (c.nothing.ensures ∙ ap refused_as c.number.ensures)
 
 pub returns-then-out-record_size : goal.returns-then-out-record_size
 returns-then-out-record_size c =
     let a = c.args in
     let r = c.record_size.ensures ∙ ap record_size c.profile_of-profile.ensures in
-    take-nine a.state.now (ok (goal.at.returns-then-out-record_size c).Else-not-consistent) a.part.now a.out.now (rw r at c.if-out-record_size.true) _ c.nothing-then-out-record_size.ensures
+    take-nine a.state.now (ok (goal.at.returns-then-out-record_size c).Else-not-consistent) a.part.now a.out.now (rw r at c.if-out-record_size.true) _ (c.nothing-then-out-record_size.ensures ∙ ap refused_as c.number-then-out-record_size.ensures)
 
 -- what stands, by the words
 stands : (c : After-standing_at-stands) → c.standing_at-stands.result ≡ standing (state_of c.args.state.now)

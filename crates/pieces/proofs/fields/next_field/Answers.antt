@@ -7,7 +7,8 @@ use mathlib.Core.List.{List, ◌++◌}
 use lib.ListN.{length, take}
 use lib.Seq.{length-take-le}
 use Rattle.wire.specs.Numbers.{read_number}
-use Rattle.wire.specs.declared.Number.TheVariants.{Value}
+use Rattle.std.proofs.lemmas.Result.{err_from_is_err_and}
+use Rattle.wire.specs.Fields.{found}
 use Rattle.pieces.specs.Reading.{shifted}
 use Rattle.pieces.specs.Record.{held_in}
 use Rattle.pieces.proofs.Loading.{held-long, first-octet}
@@ -22,10 +23,10 @@ size c =
     length-take-le a.carried (held_in a.state.now) (omega (arith, c.requires))
 
 -- the bytes that were joined are read as all of them are
-read-on : (c : After-joined-field) → read_number (take (c.args.carried + c.smaller_of-more.result) c.joined-field.result) 0 ≡ read_number (take c.args.carried (held_in c.args.state.now) ++ c.args.part.now) 0
+read-on : (c : After-joined-field) → read_number (take (c.args.carried + c.min-more.result) c.joined-field.result) 0 ≡ read_number (take c.args.carried (held_in c.args.state.now) ++ c.args.part.now) 0
 read-on c =
     let a = c.args in
-    read-field (held_in a.state.now) a.part.now c.joined-field.result a.carried c.smaller_of-more.result (held-long a.state.now) c.requires.0 c.smaller_of-more.ensures (c.joined-field.ensures.1 ∙ ap (λ (x : List ℕ). x ++ take c.smaller_of-more.result a.part.now) c.held_in-held.ensures.1)
+    read-field (held_in a.state.now) a.part.now c.joined-field.result a.carried c.min-more.result (held-long a.state.now) c.requires.0 c.min-more.ensures (c.joined-field.ensures.1 ∙ ap (λ (x : List ℕ). x ++ take c.min-more.result a.part.now) c.held_in-held.ensures.1)
     (above_zero a.carried c.if-carried-eq0.false) (first-octet a.state.now)
 
 pub returns-then-carried-eq0 : goal.returns-then-carried-eq0
@@ -35,29 +36,31 @@ pub held_in-held-requires : goal.held_in-held-requires
 held_in-held-requires c = omega (arith, c.requires.0)
 
 pub slice_bounds-joined-end : goal.slice_bounds-joined-end
-slice_bounds-joined-end c = sym (length-take-le _ _ (omega (arith, c.smaller_of-more.ensures)))
+slice_bounds-joined-end c = sym (length-take-le _ _ (omega (arith, c.min-more.ensures)))
 
 pub joined-field-requires : goal.joined-field-requires
 joined-field-requires c =
     let a = c.args in
-    let w : length (take c.smaller_of-more.result a.part.now) ≡ c.smaller_of-more.result = length-take-le c.smaller_of-more.result a.part.now (omega (arith, c.smaller_of-more.ensures)) in
-    omega (arith, c.smaller_of-more.ensures, c.requires.0)
+    let w : length (take c.min-more.result a.part.now) ≡ c.min-more.result = length-take-le c.min-more.result a.part.now (omega (arith, c.min-more.ensures)) in
+    omega (arith, c.min-more.ensures, c.requires.0)
 
 pub slice_bounds-read_number-end : goal.slice_bounds-read_number-end
-slice_bounds-read_number-end c = sym (length-take-le _ _ (omega (arith, c.joined-field.ensures.0, c.smaller_of-more.ensures)))
+slice_bounds-read_number-end c = sym (length-take-le _ _ (omega (arith, c.joined-field.ensures.0, c.min-more.ensures)))
 
-pub returns-in_default : goal.returns-in_default
-returns-in_default c = ap (shifted c.args.carried 0) (sym c.in_default.is ∙ c.read_number-2.ensures ∙ read-on (goal.at.returns-in_default c).After-joined-field)
+pub returns-in_err-value : goal.returns-in_err-value
+returns-in_err-value c =
+    let p = err_from_is_err_and c.from_residual.result c.from_residual.ensures.1 in
+    rw (p.1, p.2) (ap (shifted c.args.carried 0) (sym c.in_err-value.was ∙ c.read_number-2.ensures ∙ read-on (goal.at.returns-in_err-value c).After-joined-field))
 
 pub overflow_sub-result : goal.overflow_sub-result
 overflow_sub-result c =
     let a = c.args in
     let l : length (take a.carried (held_in a.state.now)) ≡ a.carried = size (goal.at.overflow_sub-result c).After-joined-field in
-    omega (arith, value-past (take a.carried (held_in a.state.now)) a.part.now _ _ _ c.requires.1 (sym (read-on (goal.at.overflow_sub-result c).After-joined-field) ∙ sym c.read_number-2.ensures ∙ c.in-Value.is))
+    omega (arith, value-past (take a.carried (held_in a.state.now)) a.part.now _ _ _ c.requires.1 (sym (read-on (goal.at.overflow_sub-result c).After-joined-field) ∙ sym c.read_number-2.ensures ∙ c.in_ok-value.was))
 
 pub returns : goal.returns
 returns c =
     let a = c.args in
-    let v = c.in-Value in
+    let v = c.in_ok-value.field-0 in
     let z : v.next - a.carried ≡ 0 + (v.next - a.carried) = omega arith in
-    ap (λ (n : ℕ). Value v.value n v.shortest) z ∙ ap (shifted a.carried 0) (sym c.in-Value.is ∙ c.read_number-2.ensures ∙ read-on (goal.at.returns c).After-joined-field)
+    ap (λ (n : ℕ). found v.value n v.shortest) z ∙ ap (shifted a.carried 0) (sym c.in_ok-value.was ∙ c.read_number-2.ensures ∙ read-on (goal.at.returns c).After-joined-field)

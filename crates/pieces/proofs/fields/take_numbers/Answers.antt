@@ -7,7 +7,9 @@ use mathlib.Core.List.{List, ◌++◌}
 use lib.ListN.{length, get_or, take, drop, set, length-drop}
 use lib.Seq.{length-take-le}
 use Rattle.wire.specs.Numbers.{read_number}
-use Rattle.wire.specs.declared.Number.TheVariants.{Ends}
+use Rattle.std.specs.Prelude.{Err}
+use Rattle.wire.specs.declared.Refusal.TheVariants.{Ends}
+use Rattle.report.proofs.Heeding.{number-refused}
 use Rattle.entries.specs.declared.Profile.{Profile}
 use Rattle.report.specs.Header.{wanted_of}
 use Rattle.uncut.specs.State.{Numbers}
@@ -18,11 +20,11 @@ use Rattle.pieces.specs.declared.Walked.{Walked}
 use Rattle.pieces.proofs.Loading.{held-long, first-octet}
 use Rattle.pieces.proofs.Laying.{number-laid, bytes-stay}
 use Rattle.pieces.specs.Serving.{Sits, Ready}
-use Rattle.pieces.proofs.Prefix.{Behind, read_here, shifted-ends, shifted-value}
+use Rattle.pieces.proofs.Prefix.{Behind, read_here, shifted-refused, shifted-value}
 use Rattle.pieces.proofs.Stages.{at-numbers}
 use Rattle.pieces.proofs.Numbering.{Numbering, numbering-starts, count-below, carried-short, kept-short, next_past, next-within, numbering-more, first-held, first_byte, over_done, kept-done, refused-done, whole-done}
 use Rattle.pieces.proofs.fields.take_numbers.Goals as goal
-use Rattle.pieces.proofs.fields.take_numbers.Goals.{In_default, In-Value, After-come, After-come-in-loop-at}
+use Rattle.pieces.proofs.fields.take_numbers.Goals.{In_default, In-Ok, After-come, After-come-in-loop-at}
 
 module _ (p : Profile) (from : Marks) (w part : List ℕ) (sits : Sits p (stand_in from w)) (coming : from.stage ≡ 0) where
   state-is : state_in (stand_in from w) ≡ Numbers (take from.count (numbers_in w)) (take from.carried (held_in w))
@@ -39,22 +41,22 @@ module _ (p : Profile) (from : Marks) (w part : List ℕ) (sits : Sits p (stand_
 first : (c : In_default) → get_or (take c.loop-at.carried (held_in c.args.state.now) ++ drop c.loop-at.at c.args.part.now) 0 0 < 256
 first c = first_byte (held_in c.args.state.now) c.args.part.now c.loop-at.carried c.loop-at.at c.loop-at.invariant.0.held-long (first-octet c.args.state.now) (λ i. (c.type_inv.part i).fits)
 
-unfinished : (c : In_default) → read_number (take c.loop-at.carried (held_in c.args.state.now) ++ drop c.loop-at.at c.args.part.now) 0 ≡ Ends
-unfinished c = shifted-ends c.loop-at.carried c.loop-at.at _ (sym c.loop-at.invariant.1.1 ∙ c.in_default.is)
+unfinished : (c : In_default) → read_number (take c.loop-at.carried (held_in c.args.state.now) ++ drop c.loop-at.at c.args.part.now) 0 ≡ Err Ends
+unfinished c = let r = shifted-refused c.loop-at.carried c.loop-at.at _ (sym c.loop-at.invariant.1.1 ∙ c.in_default.is) in r ∙ ap Err (number-refused _ 0 r)
 
-found : (c : In-Value) → Behind c.loop-at.carried c.loop-at.at c.in-Value.value c.in-Value.next c.in-Value.shortest (read_number (take c.loop-at.carried (held_in c.args.state.now) ++ drop c.loop-at.at c.args.part.now) 0)
-found c = shifted-value c.loop-at.carried c.loop-at.at _ _ _ _ (sym c.loop-at.invariant.1.1 ∙ c.in-Value.is)
+found : (c : In-Ok) → Behind c.loop-at.carried c.loop-at.at c.in-Ok.field-0.value c.in-Ok.field-0.next c.in-Ok.field-0.shortest (read_number (take c.loop-at.carried (held_in c.args.state.now) ++ drop c.loop-at.at c.args.part.now) 0)
+found c = shifted-value c.loop-at.carried c.loop-at.at _ _ _ _ (sym c.loop-at.invariant.1.1 ∙ c.in-Ok.is)
 
 -- the number stands behind those that have come, and the bytes that are carried stay
-laid : (c : After-come) → (numbers_in (set c.loop-at.state (7 + c.loop-at.count) c.in-Value.value) ≡ set (numbers_in c.loop-at.state) c.loop-at.count c.in-Value.value) × (held_in (set c.loop-at.state (7 + c.loop-at.count) c.in-Value.value) ≡ held_in c.args.state.now)
+laid : (c : After-come) → (numbers_in (set c.loop-at.state (7 + c.loop-at.count) c.in-Ok.field-0.value) ≡ set (numbers_in c.loop-at.state) c.loop-at.count c.in-Ok.field-0.value) × (held_in (set c.loop-at.state (7 + c.loop-at.count) c.in-Ok.field-0.value) ≡ held_in c.args.state.now)
 laid c =
     let a = c.args in
     let l = c.loop-at in
     let b = count-below a.profile _ a.part.now (held_in a.state.now) l.invariant.0 in
-    (number-laid l.state l.count c.in-Value.value c.come.ensures.1 b, bytes-stay l.state l.count c.in-Value.value c.come.ensures.1 b ∙ l.invariant.1.0)
+    (number-laid l.state l.count c.in-Ok.field-0.value c.come.ensures.1 b, bytes-stay l.state l.count c.in-Ok.field-0.value c.come.ensures.1 b ∙ l.invariant.1.0)
 
 -- the numbers that have come then
-more-come : (c : After-come-in-loop-at) → numbers_in (set c.loop-at.state (7 + c.loop-at.count) c.in-Value.value) ≡ set (numbers_in c.loop-at.state) c.loop-at.count c.in-Value.value → c.come-in-loop-at.result.now ≡ take (c.loop-at.count + 1) (set (numbers_in c.loop-at.state) c.loop-at.count c.in-Value.value)
+more-come : (c : After-come-in-loop-at) → numbers_in (set c.loop-at.state (7 + c.loop-at.count) c.in-Ok.field-0.value) ≡ set (numbers_in c.loop-at.state) c.loop-at.count c.in-Ok.field-0.value → c.come-in-loop-at.result.now ≡ take (c.loop-at.count + 1) (set (numbers_in c.loop-at.state) c.loop-at.count c.in-Ok.field-0.value)
 more-come c e = c.come-in-loop-at.ensures.0 ∙ ap (take (c.loop-at.count + 1)) e
 
 pub next_field-field-requires : goal.next_field-field-requires
@@ -89,13 +91,14 @@ returns-in_default c =
 pub come-requires : goal.come-requires
 come-requires c = c.loop-at.invariant.0.few
 
-pub returns-then-refusal-ne0 : goal.returns-then-refusal-ne0
-returns-then-refusal-ne0 c =
+pub returns-in-Err : goal.returns-in-Err
+returns-in-Err c =
     let a = c.args in
     let l = c.loop-at in
-    let v = c.in-Value in
-    refused-done a.profile _ _ a.part.now (held_in a.state.now) (state-is a.profile a.from a.state.now a.part.now c.requires.0 c.requires.1) (ready_at a.profile a.from a.state.now a.part.now c.requires.0 c.requires.1) l.invariant.0 _ _ _ (found (goal.at.returns-then-refusal-ne0 c).In-Value) c.judge_field-refusal.result (rw c.come.ensures.0 at c.judge_field-refusal.ensures) c.if-refusal-ne0.true _
-    (ap (λ (x : Walked). moved_in x l.state) c.walked-then-refusal-ne0.ensures ∙ ap (λ (x : List ℕ). moved_to 3 c.judge_field-refusal.result l.count (numbers_in l.state) l.carried x v.next) l.invariant.1.0)
+    let v = c.in-Ok.field-0 in
+    refused-done a.profile _ _ a.part.now (held_in a.state.now) (state-is a.profile a.from a.state.now a.part.now c.requires.0 c.requires.1) (ready_at a.profile a.from a.state.now a.part.now c.requires.0 c.requires.1) l.invariant.0 _ _ _ (found (goal.at.returns-in-Err c).In-Ok) c.in-Err.refusal (sym (rw c.come.ensures.0 at c.judge_field.ensures) ∙ c.in-Err.is) _
+    (ap (λ (x : Walked). moved_in x l.state) c.walked-in-Err.ensures ∙ ap (λ (x : List ℕ). moved_to 3 c.number.result l.count (numbers_in l.state) l.carried x v.next) l.invariant.1.0
+    ∙ ap (λ (x : ℕ). moved_to 3 x l.count (numbers_in l.state) l.carried (held_in a.state.now) v.next) c.number.ensures)
 
 pub overflow_add-state : goal.overflow_add-state
 overflow_add-state c = omega (arith, c.loop-at.invariant.0.few)
@@ -118,22 +121,22 @@ pub returns-then-wanted-count : goal.returns-then-wanted-count
 returns-then-wanted-count c =
     let a = c.args in
     let l = c.loop-at in
-    let v = c.in-Value in
-    whole-done a.profile _ _ a.part.now (held_in a.state.now) (state-is a.profile a.from a.state.now a.part.now c.requires.0 c.requires.1) (ready_at a.profile a.from a.state.now a.part.now c.requires.0 c.requires.1) l.invariant.0 _ _ _ (found (goal.at.returns-then-wanted-count c).In-Value) (sym (rw c.come.ensures.0 at c.judge_field-refusal.ensures) ∙ c.if-refusal-ne0.false) (rw (c.wanted.ensures ∙ ap (wanted_of c.args.profile) (more-come (goal.at.returns-then-wanted-count c).After-come-in-loop-at (laid (goal.at.returns-then-wanted-count c).After-come).0)) at c.if-wanted-count.true) _
+    let v = c.in-Ok.field-0 in
+    whole-done a.profile _ _ a.part.now (held_in a.state.now) (state-is a.profile a.from a.state.now a.part.now c.requires.0 c.requires.1) (ready_at a.profile a.from a.state.now a.part.now c.requires.0 c.requires.1) l.invariant.0 _ _ _ (found (goal.at.returns-then-wanted-count c).In-Ok) (sym (rw c.come.ensures.0 at c.judge_field.ensures) ∙ c.in_default-judge_field.is) (rw (c.wanted.ensures ∙ ap (wanted_of c.args.profile) (more-come (goal.at.returns-then-wanted-count c).After-come-in-loop-at (laid (goal.at.returns-then-wanted-count c).After-come).0)) at c.if-wanted-count.true) _
     (ap (λ (x : Walked). moved_in x (set l.state (7 + l.count) v.value)) c.walked-then-wanted-count.ensures ∙ ap₂ (λ (x y : List ℕ). moved_to 1 v.value (l.count + 1) x 0 y v.next) (laid (goal.at.returns-then-wanted-count c).After-come).0 (laid (goal.at.returns-then-wanted-count c).After-come).1)
 
 pub loop-at-smaller : goal.loop-at-smaller
 loop-at-smaller c =
     let a = c.args in
-    omega (arith, next_past a.profile _ a.part.now (held_in a.state.now) c.loop-at.invariant.0 _ _ _ (found (goal.at.loop-at-smaller c).In-Value), next-within a.profile _ a.part.now (held_in a.state.now) c.loop-at.invariant.0 _ _ _ (found (goal.at.loop-at-smaller c).In-Value))
+    omega (arith, next_past a.profile _ a.part.now (held_in a.state.now) c.loop-at.invariant.0 _ _ _ (found (goal.at.loop-at-smaller c).In-Ok), next-within a.profile _ a.part.now (held_in a.state.now) c.loop-at.invariant.0 _ _ _ (found (goal.at.loop-at-smaller c).In-Ok))
 
 pub loop-at-preserved : goal.loop-at-preserved
 loop-at-preserved c =
     let a = c.args in
-    let f = found (goal.at.loop-at-preserved c).In-Value in
+    let f = found (goal.at.loop-at-preserved c).In-Ok in
     let h = c.loop-at.invariant.0 in
     let w = next-within a.profile _ a.part.now (held_in a.state.now) h _ _ _ f in
-    (rw (laid (goal.at.loop-at-preserved c).After-come).0 (numbering-more a.profile _ a.part.now (held_in a.state.now) h _ _ _ f (sym (rw c.come.ensures.0 at c.judge_field-refusal.ensures) ∙ c.if-refusal-ne0.false) (rw (c.wanted.ensures ∙ ap (wanted_of c.args.profile) (more-come (goal.at.loop-at-preserved c).After-come-in-loop-at (laid (goal.at.loop-at-preserved c).After-come).0)) at c.if-wanted-count.false) (ready_at a.profile a.from a.state.now a.part.now c.requires.0 c.requires.1)), ((laid (goal.at.loop-at-preserved c).After-come).1, c.read_number-field.ensures ∙ read_here a.part.now _ w))
+    (rw (laid (goal.at.loop-at-preserved c).After-come).0 (numbering-more a.profile _ a.part.now (held_in a.state.now) h _ _ _ f (sym (rw c.come.ensures.0 at c.judge_field.ensures) ∙ c.in_default-judge_field.is) (rw (c.wanted.ensures ∙ ap (wanted_of c.args.profile) (more-come (goal.at.loop-at-preserved c).After-come-in-loop-at (laid (goal.at.loop-at-preserved c).After-come).0)) at c.if-wanted-count.false) (ready_at a.profile a.from a.state.now a.part.now c.requires.0 c.requires.1)), ((laid (goal.at.loop-at-preserved c).After-come).1, c.read_number-field.ensures ∙ read_here a.part.now _ w))
 
 pub returns : goal.returns
 returns c =

@@ -1,17 +1,14 @@
--- `pieces::fitness::all_small` meets its contract. The loop's invariant: the numbers from here on have the answer of the whole.
+-- `pieces::fitness::all_small` meets its contract: every number was asked, or one was found that is above the limit.
 -- Assumes nothing.
-use mathlib.Core.Path.{refl, ◌∙◌}
-use Rattle.pieces.proofs.Parts.{small-stop, small-next, small-end}
+use Prim.Native.Nat.{◌≤◌, ◌<◌}
+use borrow.Author.Rules.{rules}
+use borrow.Author.Tests.{tests}
+use Rattle.std.proofs.lemmas.Iterator.{cases_from_all, YieldsList-from_slice}
+use Rattle.wire.specs.Numbers.{limit}
+use Rattle.pieces.proofs.Parts.{small-told}
 use Rattle.pieces.proofs.fitness.all_small.Goals as goal
 
-pub loop-i-init : goal.loop-i-init
-loop-i-init c = refl
-
-pub returns-then-numbers-i-gt-LARGEST : goal.returns-then-numbers-i-gt-LARGEST
-returns-then-numbers-i-gt-LARGEST c = small-stop _ _ c.loop-i-test.true c.if-numbers-i-gt-LARGEST.true ∙ c.loop-i.invariant
-
-pub loop-i-preserved : goal.loop-i-preserved
-loop-i-preserved c = small-next _ _ c.loop-i-test.true c.if-numbers-i-gt-LARGEST.false ∙ c.loop-i.invariant
-
 pub returns : goal.returns
-returns c = small-end _ _ c.loop-i-test.false ∙ c.loop-i.invariant
+returns c =
+    small-told c.all.result c.args.numbers.now
+    (cases_from_all _ _ _ (λ x. x ≤ limit) (λ x. limit < x) c.all.ensures.ran (YieldsList-from_slice c.args.numbers.now cc) (λ x q k. search (rules, tests)) (λ x q k. search (rules, tests)))

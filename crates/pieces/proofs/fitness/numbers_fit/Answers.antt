@@ -1,17 +1,17 @@
 -- `pieces::fitness::numbers_fit` meets its contract: its tests are the definition's.
 -- Assumes nothing.
 use mathlib.Core.Path.{sym, ap, ◌∙◌}
-use Prim.Native.Nat.{ℕ}
-use lib.Dec.{eqb}
+use Rattle.std.specs.Prelude.{Result, is_ok}
+use Rattle.wire.specs.declared.Refusal.{Refusal}
 use Rattle.pieces.proofs.Parts.{numbers-large, numbers-judged}
 use Rattle.pieces.proofs.fitness.numbers_fit.Goals as goal
 
-pub returns-then-not-all_small : goal.returns-then-not-all_small
-returns-then-not-all_small c =
+pub returns-else-all_small : goal.returns-else-all_small
+returns-else-all_small c =
     let a = c.args in
-    numbers-large a.profile a.numbers.now (sym c.all_small.ensures ∙ c.if-not-all_small.true)
+    c.if-all_small.false ∙ numbers-large a.profile a.numbers.now (sym c.all_small.ensures ∙ c.if-all_small.false)
 
-pub returns : goal.returns
-returns c =
+pub returns-then-all_small : goal.returns-then-all_small
+returns-then-all_small c =
     let a = c.args in
-    ap (λ (x : ℕ). eqb x 0) c.first_fault.ensures ∙ numbers-judged a.profile a.numbers.now (sym c.all_small.ensures ∙ c.if-not-all_small.false)
+    c.is_ok.ensures.value ∙ ap (λ (x : Result Unit Refusal). is_ok x) c.first_fault.ensures ∙ numbers-judged a.profile a.numbers.now (sym c.all_small.ensures ∙ c.if-all_small.true)

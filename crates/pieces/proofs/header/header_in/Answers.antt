@@ -19,7 +19,7 @@ pub loop-i-preserved : goal.loop-i-preserved
 loop-i-preserved c =
     let l = c.loop-i in
     let places = c.args.places.now in
-    let h : l.i < metric_places = omega (arith, c.loop-i-test.true, c.smaller_of-shown.ensures) in
+    let h : l.i < metric_places = omega (arith, c.loop-i-test.true, c.min-shown.ensures) in
     (search rules, (more-shown (kind_at places) l.i l.kinds h l.invariant.1.0, more-shown (value_at places) l.i l.values h l.invariant.1.1))
 
 pub returns : goal.returns
@@ -27,12 +27,12 @@ returns c = λ ns n e.
     let places = c.args.places.now in
     let l = c.loop-i in
     let a = c.average-mean in
-    let z : l.i ≡ min (get_or places at_metrics 0) metric_places = omega (arith, l.invariant.0, c.loop-i-test.false, c.smaller_of-shown.ensures) in
+    let z : l.i ≡ min (get_or places at_metrics 0) metric_places = omega (arith, l.invariant.0, c.loop-i-test.false, c.min-shown.ensures) in
     rw (
       to_z-of_z w64 a.result (record { sfits = a.type_inv }),
       a.ensures,
       all_shown (kind_at places) l.i (get_or places at_metrics 0) l.kinds z l.invariant.1.0,
       all_shown (value_at places) l.i (get_or places at_metrics 0) l.values z l.invariant.1.1,
-      c.last_place-last.ensures,
+      c.saturating_sub-last.ensures,
     )
     (header-stands ns c.args.count places n e)

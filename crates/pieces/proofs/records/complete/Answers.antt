@@ -71,17 +71,17 @@ returns-then-run-eq0 c =
     let h = c.requires in
     bad-done a.profile (stand_in a.from a.state.now) a.part.now a.out.now h.0 (whole (goal.at.returns-then-run-eq0 c).Else-not-completes) h.1.1 c.record_size-size.result c.record_size-size.ensures c.joined-record.result (key_of a.profile a.from.last a.from.above (take c.record_size-size.result c.joined-record.result)) (c.joined-record.ensures.1 ∙ ap (λ (x : List ℕ). x ++ take (c.record_size-size.result - a.from.carried) a.part.now) c.held_in-held.ensures.1) refl (key-bad a.profile a.from.last a.from.above (take c.record_size-size.result c.joined-record.result) (length-take-le c.record_size-size.result c.joined-record.result (omega (arith, c.record_size-size.ensures, c.joined-record.ensures.0, size-most a.profile)) ∙ c.record_size-size.ensures) c.good_run-run.result c.good_run-run.ensures c.if-run-eq0.true) _ (ap (λ (x : Walked). moved_in x a.state.now) c.after_bad.ensures)
 
-pub slice_bounds-copy-end-2 : goal.slice_bounds-copy-end-2
-slice_bounds-copy-end-2 c = sym (length-take-le _ _ (omega (arith, c.record_size-size.ensures, c.requires.1.1)))
+pub slice_bounds-copy_from_slice-end-2 : goal.slice_bounds-copy_from_slice-end-2
+slice_bounds-copy_from_slice-end-2 c = sym (length-take-le _ _ (omega (arith, c.record_size-size.ensures, c.requires.1.1)))
 
 pub slice_bounds-record-end-2 : goal.slice_bounds-record-end-2
 slice_bounds-record-end-2 c = omega (arith, c.record_size-size.ensures, c.joined-record.ensures.0, size-most c.args.profile)
 
-pub slice_bounds-copy-end-3 : goal.slice_bounds-copy-end-3
-slice_bounds-copy-end-3 c = sym (length-take-le _ _ (omega (arith, c.record_size-size.ensures, c.joined-record.ensures.0, size-most c.args.profile)))
+pub slice_bounds-copy_from_slice-end-3 : goal.slice_bounds-copy_from_slice-end-3
+slice_bounds-copy_from_slice-end-3 c = sym (length-take-le _ _ (omega (arith, c.record_size-size.ensures, c.joined-record.ensures.0, size-most c.args.profile)))
 
-pub copy-requires : goal.copy-requires
-copy-requires c = length-take-le c.record_size-size.result c.args.out.now (omega (arith, c.record_size-size.ensures, c.requires.1.1)) ∙ sym (length-take-le c.record_size-size.result c.joined-record.result (omega (arith, c.record_size-size.ensures, c.joined-record.ensures.0, size-most c.args.profile)))
+pub copy_from_slice-requires : goal.copy_from_slice-requires
+copy_from_slice-requires c = length-take-le c.record_size-size.result c.args.out.now (omega (arith, c.record_size-size.ensures, c.requires.1.1)) ∙ sym (length-take-le c.record_size-size.result c.joined-record.result (omega (arith, c.record_size-size.ensures, c.joined-record.ensures.0, size-most c.args.profile)))
 
 pub overflow_sub-now : goal.overflow_sub-now
 overflow_sub-now c =
@@ -93,4 +93,4 @@ pub returns : goal.returns
 returns c =
     let a = c.args in
     let h = c.requires in
-    good-done a.profile (stand_in a.from a.state.now) a.part.now a.out.now h.0 (whole (goal.at.returns c).Else-not-completes) h.1.1 c.record_size-size.result c.record_size-size.ensures c.joined-record.result c.copy.new.to (key_of a.profile a.from.last a.from.above (take c.record_size-size.result c.joined-record.result)) _ _ (c.joined-record.ensures.1 ∙ ap (λ (x : List ℕ). x ++ take (c.record_size-size.result - a.from.carried) a.part.now) c.held_in-held.ensures.1) refl (key-good a.profile a.from.last a.from.above (take c.record_size-size.result c.joined-record.result) (length-take-le c.record_size-size.result c.joined-record.result (omega (arith, c.record_size-size.ensures, c.joined-record.ensures.0, size-most a.profile)) ∙ c.record_size-size.ensures) c.good_run-run.result c.good_run-run.ensures c.if-run-eq0.false) c.copy.ensures _ refl
+    good-done a.profile (stand_in a.from a.state.now) a.part.now a.out.now h.0 (whole (goal.at.returns c).Else-not-completes) h.1.1 c.record_size-size.result c.record_size-size.ensures c.joined-record.result c.copy_from_slice.new.self (key_of a.profile a.from.last a.from.above (take c.record_size-size.result c.joined-record.result)) _ _ (c.joined-record.ensures.1 ∙ ap (λ (x : List ℕ). x ++ take (c.record_size-size.result - a.from.carried) a.part.now) c.held_in-held.ensures.1) refl (key-good a.profile a.from.last a.from.above (take c.record_size-size.result c.joined-record.result) (length-take-le c.record_size-size.result c.joined-record.result (omega (arith, c.record_size-size.ensures, c.joined-record.ensures.0, size-most a.profile)) ∙ c.record_size-size.ensures) c.good_run-run.result c.good_run-run.ensures c.if-run-eq0.false) c.copy_from_slice.ensures.after _ refl

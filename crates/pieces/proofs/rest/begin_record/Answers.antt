@@ -18,7 +18,7 @@ returns-then-bytes-eq0 c =
 pub returns-then-left-eq0 : goal.returns-then-left-eq0
 returns-then-left-eq0 c =
     let a = c.args in
-    ended-behind a.profile (stand_in a.from a.state.now) a.part.now a.room _ c.requires.0 c.requires.1.0 c.if-left-eq0.true c.if-bytes-eq0.false refl
+    rw c.number.ensures (ended-behind a.profile (stand_in a.from a.state.now) a.part.now a.room _ c.requires.0 c.requires.1.0 c.if-left-eq0.true c.if-bytes-eq0.false refl)
 
 pub returns-then-room-record_size : goal.returns-then-room-record_size
 returns-then-room-record_size c =

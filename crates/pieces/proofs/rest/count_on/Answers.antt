@@ -9,4 +9,4 @@ pub returns : goal.returns
 returns c =
     let a = c.args in
     let h = c.requires in
-    ended-counting a.profile (stand_in a.from a.state.now) a.part.now c.smaller_of-bytes.result _ h.0 h.1 c.smaller_of-bytes.ensures refl
+    ended-counting a.profile (stand_in a.from a.state.now) a.part.now c.min-bytes.result _ h.0 h.1 c.min-bytes.ensures refl

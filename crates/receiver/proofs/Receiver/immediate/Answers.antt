@@ -10,10 +10,10 @@ pub returns-then-not-consistent : goal.returns-then-not-consistent
 unfolding immediate_call immediate_refusal
 returns-then-not-consistent c = c.refused.ensures ∙ rw (failed c.consistent.ensures c.if-not-consistent.true)
 
-pub returns-then-seen-eq0 : goal.returns-then-seen-eq0
+pub returns-then-self-eq0 : goal.returns-then-self-eq0
 unfolding immediate_call immediate_refusal
-returns-then-seen-eq0 c = c.refused-then-seen-eq0.ensures ∙ rw (held c.consistent.ensures c.if-not-consistent.false, eq-eqb _ _ c.if-seen-eq0.true)
+returns-then-self-eq0 c = c.refused-then-self-eq0.ensures ∙ rw (held c.consistent.ensures c.if-not-consistent.false, eq-eqb _ _ c.if-self-eq0.true)
 
 pub returns : goal.returns
 unfolding immediate_call immediate_refusal
-returns c = rw (held c.consistent.ensures c.if-not-consistent.false, ne_eqb _ _ c.if-seen-eq0.false, c.standing.ensures)
+returns c = rw (held c.consistent.ensures c.if-not-consistent.false, ne_eqb _ _ c.if-self-eq0.false, c.standing.ensures)

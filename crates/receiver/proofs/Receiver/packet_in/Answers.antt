@@ -8,10 +8,11 @@ use borrow.Author.Tests.{leb-true}
 use Rattle.wire.specs.Numbers.{limit}
 use Rattle.seen.specs.Numbers.{small}
 use Rattle.ack.proofs.Ranges.{both}
+use Rattle.ack.proofs.Refusals.{some-number}
 use Rattle.seen.specs.declared.Micros.{Micros}
 use Rattle.receiver.specs.declared.Receiver.{Receiver}
 use Rattle.receiver.specs.Record.{consistent}
-use Rattle.receiver.specs.Packet.{answer_over, packet_refusal, packet_call}
+use Rattle.receiver.specs.Packet.{record_over, answer_over, packet_refusal, packet_call}
 use Rattle.receiver.proofs.Standing.{refused, accepted}
 use Rattle.receiver.proofs.Receiver.packet_in.Goals as goal
 
@@ -25,15 +26,15 @@ passed r n time {k} e z = go (consistent r) (small n && small time.0) refl refl
     go true false p q = let h : k ≡ 5 = e ∙ rw (p, q) in absurd (omega arith)
     go false b p q = let h : k ≡ 1 = e ∙ rw p in absurd (omega arith)
 
-pub returns-then-refusal-ne0 : goal.returns-then-refusal-ne0
+pub returns-in-Err : goal.returns-in-Err
 unfolding packet_call
-returns-then-refusal-ne0 c = ap (answer_over _) c.refused.ensures ∙ rw (← c.packet_refusal-refusal.ensures) (refused _ _ _ c.if-refusal-ne0.true)
+returns-in-Err c = ap (answer_over _) c.refused.ensures ∙ rw (← c.in-Err.ensures) (refused _ _ _ (some-number _))
 
-pub with-next-requires : goal.with-next-requires
-with-next-requires c = passed _ _ _ c.packet_refusal-refusal.ensures c.if-refusal-ne0.false
+pub with-requires : goal.with-requires
+with-requires c = passed _ _ _ c.in-Ok.ensures refl
 
-pub returns : goal.returns
+pub returns-in-Ok : goal.returns-in-Ok
 unfolding packet_call
-returns c =
-    ap (λ (x : Receiver). record { result = 0; next = x }) c.with-next.ensures
-    ∙ rw (← c.packet_refusal-refusal.ensures) (accepted _ _ _ c.if-refusal-ne0.false)
+returns-in-Ok c =
+    ap (λ (x : Receiver). record { result = 0; next = x }) c.with.ensures
+    ∙ rw (← c.in-Ok.ensures) (accepted 0 (record_over c.args.words.now c.args.self) _ refl)

@@ -3,4 +3,4 @@
 use Rattle.receiver.proofs.Receiver.refused_opening.Goals as goal
 
 pub returns : goal.returns
-returns c = rw c.opened-next.ensures
+returns c = rw (c.refused.ensures, c.opened.ensures)

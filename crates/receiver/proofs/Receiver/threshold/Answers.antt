@@ -26,10 +26,10 @@ obeys : (c : Else-not-all_small) → let a = c.args in
     (consistent a.self ≡ true) × ((small a.sequence && (small a.threshold && (small a.delay.0 && small a.reordering))) ≡ true)
 obeys c = (held c.consistent.ensures c.if-not-consistent.false, held c.all_small.ensures c.if-not-all_small.false)
 
-pub overflow_add-end : goal.overflow_add-end
-overflow_add-end c =
+pub overflow_add-next : goal.overflow_add-next
+overflow_add-next c =
     let a = c.args in
-    omega (arith, leb-true a.sequence limit (both (small a.sequence) (small a.threshold && (small a.delay.0 && small a.reordering)) (obeys (goal.at.overflow_add-end c).Else-not-all_small).1).0)
+    omega (arith, leb-true a.sequence limit (both (small a.sequence) (small a.threshold && (small a.delay.0 && small a.reordering)) (obeys (goal.at.overflow_add-next c).Else-not-all_small).1).0)
 
 pub returns-then-not-allow : goal.returns-then-not-allow
 unfolding threshold_call threshold_verdict
@@ -37,14 +37,14 @@ returns-then-not-allow c =
     let k = obeys (goal.at.returns-then-not-allow c).Else-not-all_small in
     c.refused-then-not-allow.ensures ∙ rw (k.0, k.1, failed c.allow.ensures c.if-not-allow.true)
 
-pub returns-then-sequence-before : goal.returns-then-sequence-before
+pub returns-then-sequence-self : goal.returns-then-sequence-self
 unfolding threshold_call threshold_verdict
-returns-then-sequence-before c =
-    let k = obeys (goal.at.returns-then-sequence-before c).Else-not-all_small in
-    rw (k.0, k.1, held c.allow.ensures c.if-not-allow.false, lt-ltb _ _ c.if-sequence-before.true) c.stale.ensures
+returns-then-sequence-self c =
+    let k = obeys (goal.at.returns-then-sequence-self c).Else-not-all_small in
+    rw (k.0, k.1, held c.allow.ensures c.if-not-allow.false, lt-ltb _ _ c.if-sequence-self.true) c.stale.ensures
 
 pub returns : goal.returns
 unfolding threshold_call threshold_verdict agreed_after
 returns c =
     let k = obeys (goal.at.returns c).Else-not-all_small in
-    rw (k.0, k.1, held c.allow.ensures c.if-not-allow.false, le-ltb _ _ c.if-sequence-before.false)
+    rw (k.0, k.1, held c.allow.ensures c.if-not-allow.false, le-ltb _ _ c.if-sequence-self.false)

@@ -4,6 +4,7 @@ use Prim.Native.Nat.{ℕ, ◌+◌, max}
 use mathlib.Core.Path.{◌≡◌, refl, ap, ap₂, ◌∙◌}
 use mathlib.Core.Bool.{Bool, true, false}
 use mathlib.Core.List.{List}
+use mir.Val.{bool_byte}
 use Rattle.wire.specs.Bytes.{pick}
 use Rattle.seen.specs.declared.Micros.{Micros}
 use Rattle.seen.specs.declared.Seen.{Seen}
@@ -75,6 +76,11 @@ more : (r : Receiver) (n : ℕ) (time : Micros) (eliciting : Bool) (mark : Mark)
 unfolding packet_after
 more r n time eliciting mark s p h last cause t i es ep eh el ec et = rw (i, ec, el, et, eh, ep, es)
 
+-- a truth value as a number
+byte : (b : Bool) → bool_byte b ≡ pick b 1 0
+byte true = refl
+byte false = refl
+
 -- the cause looks at no word of the record's own window
 cause-over : (ws : List ℕ) (r : Receiver) (n : ℕ) (ce : Bool) (s : Seen) (p : Pending) → cause_after r n ce s p ≡ cause_after (record_over ws r) n ce s p
 unfolding cause_after first_cause congestion
@@ -84,7 +90,7 @@ pub returns-then-not-eliciting : goal.returns-then-not-eliciting
 returns-then-not-eliciting c =
     let a = c.args in
     plain (record_over a.words.now a.self) a.number a.time a.eliciting a.mark _ _ _ c.if-not-eliciting.true (seen-with (goal.at.returns-then-not-eliciting c).After-with_in-seen) c.counted-totals.ensures
-    (c.as_number-last.ensures ∙ ap (λ (b : Bool). pick b 1 0) c.is_ce-ce.ensures)
+    (c.from-last.ensures ∙ byte _ ∙ ap (λ (b : Bool). pick b 1 0) c.is_ce-ce.ensures)
 
 pub with-pending-requires : goal.with-pending-requires
 with-pending-requires c =
@@ -103,5 +109,5 @@ returns c =
     let s = over c.with_in-seen.new.words c.with_in-seen.result in
     let p = c.with-pending.result in
     more (record_over ws a.self) a.number a.time a.eliciting a.mark s p _ _ _ _ c.if-not-eliciting.false (seen-with (goal.at.returns c).After-with_in-seen)
-    c.with-pending.ensures c.larger_of-highest.ensures (c.as_number-last.ensures ∙ ap (λ (b : Bool). pick b 1 0) c.is_ce-ce.ensures)
+    c.with-pending.ensures c.max-highest.ensures (c.from-last.ensures ∙ byte _ ∙ ap (λ (b : Bool). pick b 1 0) c.is_ce-ce.ensures)
     (c.cause_after-cause.ensures ∙ cause-over ws a.self a.number c.is_ce-ce.result s p ∙ ap (λ (b : Bool). cause_after (record_over ws a.self) a.number b s p) c.is_ce-ce.ensures) c.counted-totals.ensures

@@ -11,13 +11,13 @@ returns-then-not-rest_consistent c =
     let w = refused-first a.self a.time a.kind a.buf.now (failed c.rest_consistent.ensures c.if-not-rest_consistent.true) in
     (c.refused.ensures ∙ w.0, w.1)
 
-pub returns-then-acked-ne0 : goal.returns-then-acked-ne0
-returns-then-acked-ne0 c =
+pub returns-in-Err : goal.returns-in-Err
+returns-in-Err c =
     let a = c.args in
-    let w = wrote-refusal a.self a.time a.kind a.buf.now (held c.rest_consistent.ensures c.if-not-rest_consistent.false) (rw c.said-tail.ensures at c.write_ack-acked.ensures.0) (rw c.said-tail.ensures at c.write_ack-acked.ensures.1) c.if-acked-ne0.true in
-    (c.refused-then-acked-ne0.ensures ∙ w.0, w.1)
+    let w = wrote-refusal a.self a.time a.kind a.buf.now (held c.rest_consistent.ensures c.if-not-rest_consistent.false) (rw c.said-tail.ensures at c.write_ack.ensures.0) (rw c.said-tail.ensures at c.write_ack.ensures.1) c.in-Err.is in
+    (c.refused-in-Err.ensures ∙ w.0, w.1)
 
-pub returns : goal.returns
-returns c =
+pub returns-in-Ok : goal.returns-in-Ok
+returns-in-Ok c =
     let a = c.args in
-    wrote-frame a.self a.time a.kind a.buf.now (held c.rest_consistent.ensures c.if-not-rest_consistent.false) (rw c.said-tail.ensures at c.write_ack-acked.ensures.0) (rw c.said-tail.ensures at c.write_ack-acked.ensures.1) c.after_write-next.ensures c.if-acked-ne0.false
+    wrote-frame a.self a.time a.kind a.buf.now (held c.rest_consistent.ensures c.if-not-rest_consistent.false) (rw c.said-tail.ensures at c.write_ack.ensures.0) (rw c.said-tail.ensures at c.write_ack.ensures.1) c.after_write.ensures c.in-Ok.is

@@ -1,11 +1,13 @@
 -- `receiver::causes::out_of_order` meets its contract: its test and its search are the rule's.
 -- Assumes nothing.
 use Prim.Native.Nat.{ℕ, ◌+◌, ◌<◌}
-use mathlib.Core.Path.{◌≡◌, ap, sym, ◌∙◌}
+use mathlib.Core.Path.{◌≡◌, refl, ◌∙◌}
 use mathlib.Core.Bool.{false}
 use native.Mathlib.Omega.{arith}
 use borrow.Author.Tests.{le-ltb}
 use lib.Dec.{ltb}
+use Rattle.std.specs.Option.{is_some}
+use Rattle.std.specs.Prelude.{Option, Some, None}
 use Rattle.seen.specs.Received.{is_any}
 use Rattle.receiver.specs.Packet.{out_of_order}
 use Rattle.receiver.proofs.Missing.{not_beyond}
@@ -18,10 +20,11 @@ returns-then-number-highest c = not_beyond _ _ _ c.if-number-highest.true
 above : (number highest : ℕ) → highest < number → ltb (number + 1) highest ≡ false
 above number highest l = le-ltb (number + 1) highest (omega arith)
 
-pub returns-in-At : goal.returns-in-At
-unfolding out_of_order
-returns-in-At c = rw (above _ _ c.if-number-highest.false) (ap is_any (sym c.in-At.is ∙ c.first_missing_in.ensures))
+-- the code asks std's test, the rule its own
+same : (m : Option ℕ) → is_some m ≡ is_any m
+same None = refl
+same (Some place) = refl
 
-pub returns-in-Nothing : goal.returns-in-Nothing
+pub returns : goal.returns
 unfolding out_of_order
-returns-in-Nothing c = rw (above _ _ c.if-number-highest.false) (ap is_any (sym c.in-Nothing.is ∙ c.first_missing_in.ensures))
+returns c = rw (above _ _ c.if-number-highest.false, ← c.first_missing_in.ensures) (c.is_some.ensures ∙ same _)

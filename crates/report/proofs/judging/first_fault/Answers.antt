@@ -11,27 +11,31 @@ use borrow.Author.Tests.{eq-eqb, ne_eqb, le-leb, lt-leb, le-ltb}
 use lib.Dec.{eqb, leb}
 use lib.ListN.{length, get_or, take, drop, drop_of_length-le}
 use lib.Seq.{take-suc, drop-cons, length-take-le}
+use Rattle.std.specs.Prelude.{Result, Ok, Err}
+use Rattle.std.proofs.lemmas.Result.{err_from_is_err_and}
 use Rattle.wire.specs.Bytes.{pick}
+use Rattle.wire.specs.declared.Refusal.{Refusal}
+use Rattle.wire.specs.declared.Refusal.TheVariants.{BrokenCount, OtherTotal}
 use Rattle.wire.proofs.Lengths.{split}
 use Rattle.entries.specs.Profiles.{most_metrics}
 use Rattle.entries.specs.declared.Profile.{Profile}
-use Rattle.report.specs.Header.{judge, judge_later, fault_after, first_fault}
+use Rattle.report.specs.Header.{unless, heeding, judge, judge_later, fault_after, first_fault}
 use Rattle.report.proofs.judging.first_fault.Goals as goal
 
 -- ---- the first eight: the sum, then the metric count
 eight : (p : Profile) (a b c d e f g h : ℕ) (vs : List ℕ) → first_fault p (a ∷ b ∷ c ∷ d ∷ e ∷ f ∷ g ∷ h ∷ vs)
-    ≡ pick (eqb c (d + e + f)) (pick (leb h (most_metrics p)) (fault_after p (a ∷ b ∷ c ∷ d ∷ e ∷ f ∷ g ∷ h ∷ []) vs) 10) 11
+    ≡ pick (eqb c (d + e + f)) (pick (leb h (most_metrics p)) (fault_after p (a ∷ b ∷ c ∷ d ∷ e ∷ f ∷ g ∷ h ∷ []) vs) (Err BrokenCount)) (Err OtherTotal)
 unfolding fault_after judge
 eight p a b c d e f g h vs = go (eqb c (d + e + f)) (leb h (most_metrics p))
   where
-    go : (s m : Bool) → pick (eqb (pick s 0 11) 0) (pick (eqb (pick m 0 10) 0) (fault_after p (a ∷ b ∷ c ∷ d ∷ e ∷ f ∷ g ∷ h ∷ []) vs) (pick m 0 10)) (pick s 0 11)
-        ≡ pick s (pick m (fault_after p (a ∷ b ∷ c ∷ d ∷ e ∷ f ∷ g ∷ h ∷ []) vs) 10) 11
+    go : (s m : Bool) → heeding (unless OtherTotal s) Err (heeding (unless BrokenCount m) Err (fault_after p (a ∷ b ∷ c ∷ d ∷ e ∷ f ∷ g ∷ h ∷ []) vs))
+        ≡ pick s (pick m (fault_after p (a ∷ b ∷ c ∷ d ∷ e ∷ f ∷ g ∷ h ∷ []) vs) (Err BrokenCount)) (Err OtherTotal)
     go true true = refl
     go true false = refl
     go false m = refl
 
 -- fewer than six bring none: the first that can is the sixth
-few-first : (p : Profile) (ns : List ℕ) → length ns ≤ 5 → 0 ≡ first_fault p ns
+few-first : (p : Profile) (ns : List ℕ) → length ns ≤ 5 → Ok tt ≡ first_fault p ns
 unfolding fault_after judge
 few-first p [] l = refl
 few-first p (a ∷ []) l = refl
@@ -42,16 +46,16 @@ few-first p (a ∷ b ∷ c ∷ d ∷ e ∷ []) l = refl
 few-first p (a ∷ b ∷ c ∷ d ∷ e ∷ f ∷ vs) l = absurd (omega arith)
 
 -- six or seven: the sum alone
-sum_first : (p : Profile) (c d e f : ℕ) → ◌≡◌ {A = ℕ} (pick (eqb (pick (eqb c (d + e + f)) 0 11) 0) 0 (pick (eqb c (d + e + f)) 0 11)) (pick (eqb c (d + e + f)) (pick (leb 0 (most_metrics p)) 0 10) 11)
+sum_first : (p : Profile) (c d e f : ℕ) → ◌≡◌ {A = Result Unit Refusal} (heeding (unless OtherTotal (eqb c (d + e + f))) Err (Ok tt)) (pick (eqb c (d + e + f)) (pick (leb 0 (most_metrics p)) (Ok tt) (Err BrokenCount)) (Err OtherTotal))
 sum_first p c d e f = go (eqb c (d + e + f)) (leb 0 (most_metrics p)) (le-leb 0 (most_metrics p) zero-le)
   where
-    go : (s m : Bool) → m ≡ true → ◌≡◌ {A = ℕ} (pick (eqb (pick s 0 11) 0) 0 (pick s 0 11)) (pick s (pick m 0 10) 11)
+    go : (s m : Bool) → m ≡ true → ◌≡◌ {A = Result Unit Refusal} (heeding (unless OtherTotal s) Err (Ok tt)) (pick s (pick m (Ok tt) (Err BrokenCount)) (Err OtherTotal))
     go true true t = refl
-    go true false t = let z : ◌≡◌ {A = ℕ} 0 1 = cc in absurd (omega arith)
+    go true false t = absurd (cc)
     go false m t = refl
 
 fixed-first : (p : Profile) (ns : List ℕ) → 6 ≤ length ns
-    → first_fault p ns ≡ pick (eqb (get_or ns 2 0) (get_or ns 3 0 + get_or ns 4 0 + get_or ns 5 0)) (pick (leb (get_or ns 7 0) (most_metrics p)) (fault_after p (take 8 ns) (drop 8 ns)) 10) 11
+    → first_fault p ns ≡ pick (eqb (get_or ns 2 0) (get_or ns 3 0 + get_or ns 4 0 + get_or ns 5 0)) (pick (leb (get_or ns 7 0) (most_metrics p)) (fault_after p (take 8 ns) (drop 8 ns)) (Err BrokenCount)) (Err OtherTotal)
 unfolding fault_after judge
 fixed-first p (a ∷ b ∷ c ∷ d ∷ e ∷ f ∷ g ∷ h ∷ vs) l = eight p a b c d e f g h vs
 fixed-first p (a ∷ b ∷ c ∷ d ∷ e ∷ f ∷ g ∷ []) l = sum_first p c d e f
@@ -67,11 +71,11 @@ fixed-first p (a ∷ b ∷ c ∷ d ∷ e ∷ []) l = absurd (omega arith)
 
 -- one number more
 turn : (p : Profile) (ns : List ℕ) (i : ℕ) → i < length ns
-    → fault_after p (take i ns) (drop i ns) ≡ pick (eqb (judge p (take i ns) (get_or ns i 0)) 0) (fault_after p (take (i + 1) ns) (drop (i + 1) ns)) (judge p (take i ns) (get_or ns i 0))
+    → fault_after p (take i ns) (drop i ns) ≡ heeding (judge p (take i ns) (get_or ns i 0)) Err (fault_after p (take (i + 1) ns) (drop (i + 1) ns))
 unfolding fault_after
 turn p ns i h = rw (add-one, drop-cons ns i 0, take-suc ns i 0)
 
-done : (p : Profile) (ns : List ℕ) (i : ℕ) → length ns ≤ i → fault_after p (take i ns) (drop i ns) ≡ 0
+done : (p : Profile) (ns : List ℕ) (i : ℕ) → length ns ≤ i → fault_after p (take i ns) (drop i ns) ≡ Ok tt
 unfolding fault_after
 done p ns i h = rw (drop_of_length-le ns h)
 
@@ -82,7 +86,7 @@ module _ (p : Profile) (ns : List ℕ) (i : ℕ) (b : 8 ≤ i) (h : i < length n
   long : length (take i ns) ≡ i
   long = length-take-le i ns (omega arith)
 
-  value : i % 2 ≡ 1 → judge p (take i ns) (get_or ns i 0) ≡ 0
+  value : i % 2 ≡ 1 → judge p (take i ns) (get_or ns i 0) ≡ Ok tt
   unfolding judge
   value o = rw (long, ne_eqb i 5 (λ q. omega arith), ne_eqb i 7 (λ q. omega arith), le-ltb i 8 b, eq-eqb (i % 2) 1 o)
 
@@ -96,27 +100,27 @@ pass-value p ns i b o =
     (λ h. done p ns i h ∙ sym (done p ns (i + 1) (omega arith)))
     (λ h. rw (value p ns i b h o) at (turn p ns i h))
 
-module _ (p : Profile) (ns : List ℕ) (i r f : ℕ) (b : 8 ≤ i) (o : i % 2 ≡ 0) (h : i < length ns) (e : r ≡ judge_later p (take i ns) (get_or ns i 0)) where
+module _ (p : Profile) (ns : List ℕ) (i : ℕ) (r f : Result Unit Refusal) (b : 8 ≤ i) (o : i % 2 ≡ 0) (h : i < length ns) (e : r ≡ judge_later p (take i ns) (get_or ns i 0)) where
   is : judge p (take i ns) (get_or ns i 0) ≡ r
   is = type p ns i b h o ∙ sym e
 
-  stop : (r ≡ 0 → ⊥) → fault_after p (take i ns) (drop i ns) ≡ f → r ≡ f
-  stop n inv = rw (turn p ns i h, is, ne_eqb r 0 n) at inv
+  stop : {refusal : Refusal} → r ≡ Err refusal → fault_after p (take i ns) (drop i ns) ≡ f → Err refusal ≡ f
+  stop n inv = rw (turn p ns i h, is, n) at inv
 
-  more : r ≡ 0 → fault_after p (take i ns) (drop i ns) ≡ f → fault_after p (take (i + 2) ns) (drop (i + 2) ns) ≡ f
+  more : r ≡ Ok tt → fault_after p (take i ns) (drop i ns) ≡ f → fault_after p (take (i + 2) ns) (drop (i + 2) ns) ≡ f
   more z inv =
-      let q : fault_after p (take (i + 1) ns) (drop (i + 1) ns) ≡ f = rw (turn p ns i h, is, eq-eqb r 0 z) at inv in
+      let q : fault_after p (take (i + 1) ns) (drop (i + 1) ns) ≡ f = rw (turn p ns i h, is, z) at inv in
       let v = pass-value p ns (i + 1) (omega arith) (omega arith) in
       let m : i + 1 + 1 ≡ i + 2 = omega arith in
       (rw m at (sym v)) ∙ q
 
 -- what the code has found so far: the sum does not hold, there are too many metrics, or neither
 module _ (p : Profile) (ns : List ℕ) (l : 6 ≤ length ns) (s : Bool) (e : s ≡ eqb (get_or ns 2 0) (get_or ns 3 0 + get_or ns 4 0 + get_or ns 5 0)) where
-  sum-wrong : s ≡ false → 11 ≡ first_fault p ns
+  sum-wrong : s ≡ false → Err OtherTotal ≡ first_fault p ns
   sum-wrong f = sym (fixed-first p ns l ∙ rw (← e, f))
 
   module _ (t : s ≡ true) (most : ℕ) (m : most ≡ most_metrics p) where
-    too_many : most < get_or ns 7 0 → 10 ≡ first_fault p ns
+    too_many : most < get_or ns 7 0 → Err BrokenCount ≡ first_fault p ns
     too_many h = sym (fixed-first p ns l ∙ rw (← e, t, ← m, lt-leb (get_or ns 7 0) most h))
 
     goes_on : get_or ns 7 0 ≤ most → fault_after p (take 8 ns) (drop 8 ns) ≡ first_fault p ns
@@ -145,18 +149,25 @@ loop-i-init c =
 pub slice_bounds-judge_later-end : goal.slice_bounds-judge_later-end
 slice_bounds-judge_later-end c = sym (length-take-le _ _ (search rules))
 
-pub judge_later-refusal-requires : goal.judge_later-refusal-requires
-judge_later-refusal-requires c = still-fixed _ _ c.loop-i.invariant.0 c.loop-i-test.true
+pub judge_later-requires : goal.judge_later-requires
+judge_later-requires c = still-fixed _ _ c.loop-i.invariant.0 c.loop-i-test.true
 
-pub returns-then-refusal-ne0 : goal.returns-then-refusal-ne0
-returns-then-refusal-ne0 c =
+pub returns-in_err-judge_later : goal.returns-in_err-judge_later
+returns-in_err-judge_later c =
     let l = c.loop-i.invariant in
-    stop _ _ _ _ _ l.0 l.1.0 c.loop-i-test.true c.judge_later-refusal.ensures c.if-refusal-ne0.true l.1.1
+    let p = err_from_is_err_and c.from_residual.result c.from_residual.ensures.1 in
+    rw (p.1, p.2) (stop _ _ _ _ _ l.0 l.1.0 c.loop-i-test.true c.judge_later.ensures c.in_err-judge_later.was l.1.1)
 
 pub loop-i-preserved : goal.loop-i-preserved
 loop-i-preserved c =
     let l = c.loop-i.invariant in
-    (omega arith, (omega arith, more _ _ _ _ _ l.0 l.1.0 c.loop-i-test.true c.judge_later-refusal.ensures c.if-refusal-ne0.false l.1.1))
+    (omega arith, (omega arith, more _ _ _ _ _ l.0 l.1.0 c.loop-i-test.true c.judge_later.ensures c.in_ok-judge_later.was l.1.1))
 
-pub returns : goal.returns
-returns c = sym (done _ _ _ c.loop-i-test.false) ∙ c.loop-i.invariant.1.1
+pub returns-else-most-number_at : goal.returns-else-most-number_at
+returns-else-most-number_at c = sym (done _ _ _ c.loop-i-test.false) ∙ c.loop-i.invariant.1.1
+
+-- fewer than two numbers are left behind this one
+pub returns-in_ok-judge_later : goal.returns-in_ok-judge_later
+returns-in_ok-judge_later c =
+    let l = c.loop-i.invariant in
+    sym (done _ _ (c.loop-i.i + 2) (omega (arith, c.if-i-end-i-gt2.false))) ∙ more _ _ _ _ _ l.0 l.1.0 c.loop-i-test.true c.judge_later.ensures c.in_ok-judge_later.was l.1.1

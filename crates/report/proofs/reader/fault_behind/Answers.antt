@@ -7,6 +7,8 @@ use mathlib.Core.List.{List}
 use native.Mathlib.Omega.{arith}
 use borrow.Author.Tests.{le-leb, lt-leb, eq-eqb, ne_eqb}
 use lib.ListN.{length, take, drop}
+use Rattle.std.specs.Prelude.{Ok, Err}
+use Rattle.wire.specs.declared.Refusal.TheVariants.{Ends, BrokenEntry, BytesRemain}
 use Rattle.entries.specs.Profiles.{record_size}
 use Rattle.entries.specs.Entries.{entries_good}
 use Rattle.entries.specs.declared.Profile.{Profile}
@@ -34,18 +36,18 @@ part p size e s at k =
 
 -- what each test says
 module _ (p : Profile) (s : List ℕ) (at k : ℕ) where
-  too_few : length s < at + record_size p * k → 2 ≡ fault_behind p s at k
+  too_few : length s < at + record_size p * k → Err Ends ≡ fault_behind p s at k
   too_few h = rw (lt-leb (at + record_size p * k) (length s) h)
 
   module _ (h : at + record_size p * k ≤ length s) where
-    broken : false ≡ entries_good p (take (record_size p * k) (drop at s)) → 12 ≡ fault_behind p s at k
+    broken : false ≡ entries_good p (take (record_size p * k) (drop at s)) → Err BrokenEntry ≡ fault_behind p s at k
     broken g = rw (le-leb (at + record_size p * k) (length s) h, ← g)
 
     module _ (g : true ≡ entries_good p (take (record_size p * k) (drop at s))) where
-      behind : at + record_size p * k < length s → 13 ≡ fault_behind p s at k
+      behind : at + record_size p * k < length s → Err BytesRemain ≡ fault_behind p s at k
       behind l = rw (le-leb (at + record_size p * k) (length s) h, ← g, ne_eqb (at + record_size p * k) (length s) (λ q. omega arith))
 
-      none : length s ≤ at + record_size p * k → 0 ≡ fault_behind p s at k
+      none : length s ≤ at + record_size p * k → Ok tt ≡ fault_behind p s at k
       none l = rw (le-leb (at + record_size p * k) (length s) h, ← g, eq-eqb (at + record_size p * k) (length s) (omega arith))
 
 pub returns-then-records_in-entries : goal.returns-then-records_in-entries

@@ -1,43 +1,23 @@
 -- `report::read_as` meets its contract: the numbers and what comes behind them, or the refusal, make the report.
 -- Assumes nothing.
-use mathlib.Core.Path.{◌≡◌, sym, ◌∙◌}
-use native.Mathlib.Omega.{arith}
-use lib.ListN.{length}
-use lib.Seq.{length-take-le}
+use mathlib.Core.Path.{◌∙◌}
 use Rattle.report.proofs.Whole.{stopped-judged, refused-behind, whole-behind, report-stopped, report-whole}
-use borrow.Author.Rules.{rules}
 use Rattle.report.proofs.reader.read_as.Goals as goal
 
-pub returns-then-refusal-ne0 : goal.returns-then-refusal-ne0
-returns-then-refusal-ne0 c =
+pub returns-in-Err : goal.returns-in-Err
+returns-in-Err c =
     let a = c.args in
-    let f = c.read_numbers-found in
-    c.refused.ensures ∙ report-stopped a.profile a.s.now _ (stopped-judged a.profile a.s.now f.result c.if-refusal-ne0.true f.ensures.0)
+    c.refused.ensures ∙ report-stopped a.profile a.s.now _ (stopped-judged a.profile a.s.now _ c.in-Err.ensures.0)
 
-pub slice_bounds-numbers-end : goal.slice_bounds-numbers-end
-slice_bounds-numbers-end c = let l : length c.read_numbers-found.result.numbers ≡ 25 = search rules in omega (arith, c.read_numbers-found.ensures.1)
-
-pub slice_bounds-last_of-end : goal.slice_bounds-last_of-end
-slice_bounds-last_of-end c = let l : length c.read_numbers-found.result.numbers ≡ 25 = search rules in sym (length-take-le _ _ (omega (arith, c.read_numbers-found.ensures.1)))
-
-pub returns-then-fault-ne0 : goal.returns-then-fault-ne0
-returns-then-fault-ne0 c =
+pub returns-in-Err-fault_behind : goal.returns-in-Err-fault_behind
+returns-in-Err-fault_behind c =
     let a = c.args in
-    let f = c.read_numbers-found in
-    c.refused-then-fault-ne0.ensures
-    ∙ report-stopped a.profile a.s.now _
-    (refused-behind a.profile a.s.now f.result c.if-refusal-ne0.false f.ensures.0 _ _ c.last_of-entries.ensures c.fault_behind-fault.ensures c.if-fault-ne0.true)
-
-pub slice_bounds-numbers-end-2 : goal.slice_bounds-numbers-end-2
-slice_bounds-numbers-end-2 c = let l : length c.read_numbers-found.result.numbers ≡ 25 = search rules in omega (arith, c.read_numbers-found.ensures.1)
-
-pub slice_bounds-header_of-end : goal.slice_bounds-header_of-end
-slice_bounds-header_of-end c = let l : length c.read_numbers-found.result.numbers ≡ 25 = search rules in sym (length-take-le _ _ (omega (arith, c.read_numbers-found.ensures.1)))
+    let f = c.in-Ok in
+    c.refused-in-Err-fault_behind.ensures ∙ report-stopped a.profile a.s.now _ (refused-behind a.profile a.s.now f.read f.ensures.0 _ _ c.last_of.ensures c.fault_behind.ensures c.in-Err-fault_behind.is)
 
 pub returns : goal.returns
 returns c =
     let a = c.args in
-    let f = c.read_numbers-found in
+    let f = c.in-Ok in
     rw c.header_of-header.ensures
-    (report-whole a.profile a.s.now _ f.result.next f.result.refusal c.if-refusal-ne0.false
-    (whole-behind a.profile a.s.now f.result c.if-refusal-ne0.false f.ensures.0 _ _ c.last_of-entries.ensures c.fault_behind-fault.ensures c.if-fault-ne0.false))
+    (report-whole a.profile a.s.now _ f.read.next (whole-behind a.profile a.s.now f.read f.ensures.0 _ _ c.last_of.ensures c.fault_behind.ensures c.in_default.is))

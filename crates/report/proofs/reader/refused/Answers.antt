@@ -5,4 +5,4 @@ use Rattle.report.proofs.reader.refused.Goals as goal
 
 pub returns : goal.returns
 unfolding report_of
-returns c = rw c.empty_header-header.ensures
+returns c = rw (c.empty_header-header.ensures, c.number.ensures)

@@ -2,42 +2,46 @@
 -- Assumes nothing.
 use mathlib.Core.Path.{refl, sym, ◌∙◌}
 use native.Mathlib.Omega.{arith}
-use Rattle.wire.proofs.Writing.{length-large, length-bytes}
+use Rattle.std.proofs.lemmas.Result.{err_from_is_err_and}
+use Rattle.wire.proofs.Writing.{length-bytes}
 use Rattle.entries.specs.Profiles.{record_size}
-use Rattle.report.proofs.Planning.{plan-large, plan-fault, plan-above, plan-broken, plan-room, plan-done-by, plan-fits}
+use Rattle.report.proofs.Planning.{plan-refused, plan-fault, plan-above, plan-broken, plan-room, plan-done-by, plan-fits}
 use Rattle.report.proofs.writer.plan.Goals as goal
 
-pub returns-in_default : goal.returns-in_default
-returns-in_default c =
+pub returns-in_err-head : goal.returns-in_err-head
+returns-in_err-head c =
     let a = c.args in
-    plan-large a.profile a.numbers.now a.entries.now a.maximum a.room (length-large a.numbers.now (sym c.in_default.is ∙ c.length_of.ensures))
+    let p = err_from_is_err_and c.from_residual.result c.from_residual.ensures.1 in
+    rw (p.1, p.2) (plan-refused a.profile a.numbers.now a.entries.now a.maximum a.room (sym c.in_err-head.was ∙ c.length_of.ensures))
 
-pub returns-then-fault-ne0 : goal.returns-then-fault-ne0
-returns-then-fault-ne0 c =
+pub returns-in_err-first_fault : goal.returns-in_err-first_fault
+returns-in_err-first_fault c =
     let a = c.args in
-    let b = length-bytes a.numbers.now _ (sym c.in-Bytes.is ∙ c.length_of.ensures) in
-    plan-fault a.profile a.numbers.now a.entries.now a.maximum a.room b.0 _ c.first_fault-fault.ensures c.if-fault-ne0.true
+    let b = length-bytes a.numbers.now _ (sym c.in_ok-head.was ∙ c.length_of.ensures) in
+    let p = err_from_is_err_and c.from_residual-in_err-first_fault.result c.from_residual-in_err-first_fault.ensures.1 in
+    rw (p.1, p.2) (plan-fault a.profile a.numbers.now a.entries.now a.maximum a.room b.0 (sym c.in_err-first_fault.was ∙ c.first_fault.ensures))
 
 pub returns-then-maximum : goal.returns-then-maximum
 returns-then-maximum c =
     let a = c.args in
-    let b = length-bytes a.numbers.now _ (sym c.in-Bytes.is ∙ c.length_of.ensures) in
-    let z = sym c.first_fault-fault.ensures ∙ c.if-fault-ne0.false in
+    let b = length-bytes a.numbers.now _ (sym c.in_ok-head.was ∙ c.length_of.ensures) in
+    let z = sym c.first_fault.ensures ∙ c.in_ok-first_fault.was in
     plan-above a.profile a.numbers.now a.entries.now a.maximum a.room b.0 z c.if-maximum.true
 
-pub returns-then-broken-ne0 : goal.returns-then-broken-ne0
-returns-then-broken-ne0 c =
+pub returns-in_err-entries_fault : goal.returns-in_err-entries_fault
+returns-in_err-entries_fault c =
     let a = c.args in
-    let b = length-bytes a.numbers.now _ (sym c.in-Bytes.is ∙ c.length_of.ensures) in
-    let z = sym c.first_fault-fault.ensures ∙ c.if-fault-ne0.false in
-    plan-broken a.profile a.numbers.now a.entries.now a.maximum a.room b.0 z c.if-maximum.false _ c.entries_fault-broken.ensures c.if-broken-ne0.true
+    let b = length-bytes a.numbers.now _ (sym c.in_ok-head.was ∙ c.length_of.ensures) in
+    let z = sym c.first_fault.ensures ∙ c.in_ok-first_fault.was in
+    let p = err_from_is_err_and c.from_residual-in_err-entries_fault.result c.from_residual-in_err-entries_fault.ensures.1 in
+    rw (p.1, p.2) (plan-broken a.profile a.numbers.now a.entries.now a.maximum a.room b.0 z c.if-maximum.false (sym c.in_err-entries_fault.was ∙ c.entries_fault.ensures))
 
 pub returns-then-room-head : goal.returns-then-room-head
 returns-then-room-head c =
     let a = c.args in
-    let b = length-bytes a.numbers.now _ (sym c.in-Bytes.is ∙ c.length_of.ensures) in
-    let z = sym c.first_fault-fault.ensures ∙ c.if-fault-ne0.false in
-    let y = sym c.entries_fault-broken.ensures ∙ c.if-broken-ne0.false in
+    let b = length-bytes a.numbers.now _ (sym c.in_ok-head.was ∙ c.length_of.ensures) in
+    let z = sym c.first_fault.ensures ∙ c.in_ok-first_fault.was in
+    let y = sym c.entries_fault.ensures ∙ c.in_ok-entries_fault.was in
     plan-room a.profile a.numbers.now a.entries.now a.maximum a.room b.0 z c.if-maximum.false y (omega (arith, b.1, c.if-room-head.true))
 
 pub overflow_add-result : goal.overflow_add-result
@@ -59,9 +63,9 @@ overflow_add-result-2 c =
 pub returns : goal.returns
 returns c =
     let a = c.args in
-    let b = length-bytes a.numbers.now _ (sym c.in-Bytes.is ∙ c.length_of.ensures) in
-    let z = sym c.first_fault-fault.ensures ∙ c.if-fault-ne0.false in
-    let y = sym c.entries_fault-broken.ensures ∙ c.if-broken-ne0.false in
+    let b = length-bytes a.numbers.now _ (sym c.in_ok-head.was ∙ c.length_of.ensures) in
+    let z = sym c.first_fault.ensures ∙ c.in_ok-first_fault.was in
+    let y = sym c.entries_fault.ensures ∙ c.in_ok-entries_fault.was in
     let r = c.records_in-given in
     let s = c.record_size in
     plan-done-by a.profile a.numbers.now a.entries.now a.maximum a.room b.0 z c.if-maximum.false y r.result s.result r.ensures s.ensures _ _ _ b.1 c.if-room-head.false c.fitting-kept.ensures c.width.ensures

@@ -23,23 +23,23 @@ done xs vs at i h = rw (drop_of_length-le vs h, add-zero) (take-append-drop at x
 
 pub overflow_add-place : goal.overflow_add-place
 overflow_add-place c =
-    let l = c.loop-i in
+    let l = c.loop-v in
     let vs = c.args.numbers.now in
-    let h = c.loop-i-test.true in
-    omega (arith, split-length vs l.i h (small-here vs l.i h l.invariant.3), l.invariant, c.width-len.ensures)
+    let h = c.loop-v-test.true in
+    omega (arith, split-length vs l.v-index h (small-here vs l.v-index h l.invariant.3), l.invariant, c.width-place.ensures)
 
-pub loop-i-preserved : goal.loop-i-preserved
-loop-i-preserved c =
-    let l = c.loop-i in
+pub loop-v-preserved : goal.loop-v-preserved
+loop-v-preserved c =
+    let l = c.loop-v in
     let vs = c.args.numbers.now in
-    let h = c.loop-i-test.true in
-    let s = small-here vs l.i h l.invariant.3 in
-    let w = c.width-len.ensures in
+    let h = c.loop-v-test.true in
+    let s = small-here vs l.v-index h l.invariant.3 in
+    let w = c.width-place.ensures in
     let k = c.put_number.auto.buf in
-    let n = split-length vs l.i h s in
-    (omega arith, omega arith, omega arith, sym (small-next vs l.i h s) ∙ l.invariant.3, rw (w, c.put_number.ensures.1) (store-next _ _ vs l.i h s (omega arith)) ∙ l.invariant.4)
+    let n = split-length vs l.v-index h s in
+    (omega arith, omega arith, omega arith, sym (small-next vs l.v-index h s) ∙ l.invariant.3, rw (w, c.put_number.ensures.1) (store-next _ _ vs l.v-index h s (omega arith)) ∙ l.invariant.4)
 
 pub returns : goal.returns
 returns c =
-    let l = c.loop-i in
-    sym (done l.buf _ l.place l.i c.loop-i-test.false) ∙ l.invariant.4
+    let l = c.loop-v in
+    sym (done l.buf _ l.place l.v-index c.loop-v-test.false) ∙ l.invariant.4

@@ -1,6 +1,6 @@
 -- `report::store_numbers` meets its contract. The loop's invariant: the numbers to come, laid over the buffer as it is, give the whole.
 -- Assumes nothing.
-use Prim.Native.Nat.{◌+◌, ◌-◌, ◌≤◌}
+use Prim.Native.Nat.{◌+◌, ◌≤◌}
 use mathlib.Core.Path.{◌≡◌}
 use mathlib.Core.Bool.{true}
 use lib.ListN.{length, drop}
@@ -8,10 +8,7 @@ use Rattle.wire.specs.Bytes.{splice}
 use Rattle.wire.specs.Numbers.{encode_all, all_small}
 use Rattle.report.proofs.writer.store_numbers.Given as goal
 
-abbrev pub invariant-loop-i : goal.invariant-loop-i
-invariant-loop-i l =
-    (l.i ≤ length l.numbers) × (length l.buf ≡ length l.initial.buf) × (l.place + length (encode_all (drop l.i l.numbers)) ≤ length l.buf)
-    × (all_small (drop l.i l.numbers) ≡ true) × (splice l.buf l.place (encode_all (drop l.i l.numbers)) ≡ splice l.initial.buf 0 (encode_all l.numbers))
-
-abbrev pub decreases-loop-i : goal.decreases-loop-i
-decreases-loop-i l = length l.numbers - l.i
+abbrev pub invariant-loop-v : goal.invariant-loop-v
+invariant-loop-v l =
+    (l.v-index ≤ length l.numbers) × (length l.buf ≡ length l.initial.buf) × (l.place + length (encode_all (drop l.v-index l.numbers)) ≤ length l.buf)
+    × (all_small (drop l.v-index l.numbers) ≡ true) × (splice l.buf l.place (encode_all (drop l.v-index l.numbers)) ≡ splice l.initial.buf 0 (encode_all l.numbers))

@@ -3,13 +3,8 @@
 use borrow.Author.Rules.{rules}
 use mir.Val.{Fits}
 use mir.Syntax.{w64}
-use Rattle.sent.proofs.Sends.{part-fits, part-cleared}
+use Rattle.sent.proofs.Sends.{part-cleared}
 use Rattle.sent.proofs.calls.cleared.Goals as goal
-
-pub overflow_sub-result : goal.overflow_sub-result
-overflow_sub-result c =
-    let w : Fits w64 c.args.word = search rules in
-    part-fits c.args.word c.args.k w.fits
 
 pub returns : goal.returns
 returns c =

@@ -4,14 +4,14 @@ use mathlib.Core.Path.{◌≡◌}
 use Prim.Native.Nat.{◌≤◌}
 use lib.ListN.{length}
 use Rattle.frames.specs.Ack.{ranges_from, IsWhole}
-use Rattle.sent.specs.Heard.{within}
+use Rattle.sent.specs.Heard.{ranges_of, within}
 use Rattle.sent.proofs.Marking.{Marked}
 use Rattle.sent.proofs.hearing.frame_marks.Given as goal
 
-abbrev pub invariant-loop-words : goal.invariant-loop-words
-invariant-loop-words l =
-    (l.high ≤ l.largest) × IsWhole (ranges_from l.left l.s l.place l.high).walk × (length l.words ≡ 16)
-    × Marked l.words l.floor (ranges_from l.left l.s l.place l.high) (within (ranges_from l.count l.s l.at l.largest).pairs)
+abbrev pub invariant-loop-smallest : goal.invariant-loop-smallest
+invariant-loop-smallest l =
+    (l.high ≤ l.checked.largest) × IsWhole (ranges_from l.left l.s l.place l.high).walk × (length l.words ≡ 16)
+    × Marked l.words l.floor (ranges_from l.left l.s l.place l.high) (within (ranges_of l.s l.checked).pairs)
 
-abbrev pub decreases-loop-words : goal.decreases-loop-words
-decreases-loop-words l = l.left
+abbrev pub decreases-loop-smallest : goal.decreases-loop-smallest
+decreases-loop-smallest l = l.left

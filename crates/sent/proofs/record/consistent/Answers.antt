@@ -1,17 +1,11 @@
 -- `sent::record::consistent` meets its contract: the numbers, then the marks.
 -- Assumes nothing.
-use mathlib.Core.Path.{sym, ◌∙◌}
-use Rattle.sent.proofs.Numbers.{agree-says}
+use mathlib.Core.Path.{◌∙◌}
 use Rattle.sent.proofs.Sends.{numbers-wrong, marks-judged}
 use Rattle.sent.proofs.record.consistent.Goals as goal
 
-pub returns-then-not-numbers_agree : goal.returns-then-not-numbers_agree
-returns-then-not-numbers_agree c = numbers-wrong _ c.numbers_agree.ensures c.if-not-numbers_agree.true
+pub returns-then-numbers_agree : goal.returns-then-numbers_agree
+returns-then-numbers_agree c = marks-judged _ c.numbers_agree.ensures c.if-numbers_agree.true c.marks_agree.ensures
 
-pub marks_agree-requires : goal.marks_agree-requires
-marks_agree-requires c =
-    (agree-says _ _ _ _ (sym c.numbers_agree.ensures ∙ c.if-not-numbers_agree.false)).sent
-
-pub returns : goal.returns
-returns c =
-    marks-judged _ c.numbers_agree.ensures c.if-not-numbers_agree.false c.marks_agree.ensures
+pub returns-else-numbers_agree : goal.returns-else-numbers_agree
+returns-else-numbers_agree c = c.if-numbers_agree.false ∙ numbers-wrong _ c.numbers_agree.ensures c.if-numbers_agree.false

@@ -1,34 +1,23 @@
 -- `sent::record::word_agrees` meets its contract: each test tells of every bit.
 -- Assumes nothing.
-use borrow.Author.Rules.{rules}
-use mir.Val.{Fits}
-use mir.Syntax.{w64}
+use mathlib.Core.Path.{sym, ◌∙◌}
+use borrow.Author.Tests.{eqb-true, eqb-false}
 use Rattle.sent.proofs.Agree.{both-wrong, due-wrong, outside-judged}
 use Rattle.sent.proofs.record.word_agrees.Goals as goal
+use Rattle.sent.proofs.record.word_agrees.Goals.{then-acked-lost-eq0, else-acked-lost-eq0}
 
-pub returns-then-acked-lost-ne0 : goal.returns-then-acked-lost-ne0
-returns-then-acked-lost-ne0 c =
-    let s = c.args in
-    let a : Fits w64 s.acked = search rules in
-    let l : Fits w64 s.lost = search rules in
-    let d : Fits w64 s.due = search rules in
-    let o : Fits w64 s.outside = search rules in
-    both-wrong s.acked s.lost s.due s.outside a.fits l.fits d.fits o.fits c.if-acked-lost-ne0.true
+pub returns-then-due-either-eq0 : goal.returns-then-due-either-eq0
+returns-then-due-either-eq0 c =
+    let r = c.ranges in
+    elim c.if-acked-lost-eq0.branch [
+      | then-acked-lost-eq0 w ↦ outside-judged _ _ _ _ r.acked.fits r.lost.fits r.due.fits r.outside.fits w.if-acked-lost-eq0.true (eqb-true _ 0 (sym w.value-is ∙ c.if-due-either-eq0.true))
+      | else-acked-lost-eq0 w ↦ absurd (w.if-acked-lost-eq0.false (eqb-true _ 0 (sym w.value-is ∙ c.if-due-either-eq0.true)))
+    ]
 
-pub returns-then-due-either-ne0 : goal.returns-then-due-either-ne0
-returns-then-due-either-ne0 c =
-    let s = c.args in
-    let a : Fits w64 s.acked = search rules in
-    let l : Fits w64 s.lost = search rules in
-    let d : Fits w64 s.due = search rules in
-    let o : Fits w64 s.outside = search rules in
-    due-wrong s.acked s.lost s.due s.outside a.fits l.fits d.fits o.fits c.if-due-either-ne0.true
-
-pub returns : goal.returns
-returns c =
-    let s = c.args in
-    let a : Fits w64 s.acked = search rules in
-    let l : Fits w64 s.lost = search rules in
-    let d : Fits w64 s.due = search rules in
-    let o : Fits w64 s.outside = search rules in
-    outside-judged s.acked s.lost s.due s.outside a.fits l.fits d.fits o.fits (search rules) (search rules)
+pub returns-else-due-either-eq0 : goal.returns-else-due-either-eq0
+returns-else-due-either-eq0 c =
+    let r = c.ranges in
+    c.if-due-either-eq0.false ∙ elim c.if-acked-lost-eq0.branch [
+      | then-acked-lost-eq0 w ↦ due-wrong _ _ _ _ r.acked.fits r.lost.fits r.due.fits r.outside.fits (eqb-false _ 0 (sym w.value-is ∙ c.if-due-either-eq0.false))
+      | else-acked-lost-eq0 w ↦ both-wrong _ _ _ _ r.acked.fits r.lost.fits r.due.fits r.outside.fits w.if-acked-lost-eq0.false
+    ]

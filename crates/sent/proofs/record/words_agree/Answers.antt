@@ -1,6 +1,6 @@
 -- `sent::record::words_agree` meets its contract. The loop's invariant: the answer from here is the answer from the start.
 -- Assumes nothing.
-use mathlib.Core.Path.{◌≡◌, refl, sym, ap, ◌∙◌}
+use mathlib.Core.Path.{◌≡◌, sym, ap, ◌∙◌}
 use mathlib.Core.Bool.{not}
 use Prim.Native.Nat.{ℕ, ◌+◌, ◌-◌}
 use native.Mathlib.Omega.{arith}
@@ -9,27 +9,22 @@ use Rattle.sent.specs.Record.{word_wrong}
 use Rattle.marks.proofs.Listing.{none-stop, none-next, none_is}
 use Rattle.sent.proofs.record.words_agree.Goals as goal
 
-pub loop-i-init : goal.loop-i-init
-loop-i-init c = (omega arith, refl)
-
 pub returns-then-not-word_agrees : goal.returns-then-not-word_agrees
 returns-then-not-word_agrees c =
     let i = c.loop-i.i in
     let s = c.args in
-    let t = c.loop-i-test.true in
     let w = word_wrong s.losses.now s.due.now s.outside.now in
-    sym (none-stop w (16 - i) i (omega (arith, t)) (ap not (sym c.word_agrees.ensures ∙ c.if-not-word_agrees.true))) ∙ c.loop-i.invariant.1
+    sym (none-stop w (16 - i) i (omega arith) (ap not (sym c.word_agrees.ensures ∙ c.if-not-word_agrees.true))) ∙ c.loop-i.invariant
 
 pub loop-i-preserved : goal.loop-i-preserved
 loop-i-preserved c =
     let i = c.loop-i.i in
     let s = c.args in
-    let t = c.loop-i-test.true in
     let w = word_wrong s.losses.now s.due.now s.outside.now in
     let d : 16 - (i + 1) ≡ 16 - i - 1 = omega arith in
-    (omega (arith, t), ap (λ (k : ℕ). none_in w k (i + 1)) d ∙ sym (none-next w (16 - i) i (omega (arith, t)) (ap not (sym c.word_agrees.ensures ∙ c.if-not-word_agrees.false))) ∙ c.loop-i.invariant.1)
+    ap (λ (k : ℕ). none_in w k (i + 1)) d ∙ sym (none-next w (16 - i) i (omega arith) (ap not (sym c.word_agrees.ensures ∙ c.if-not-word_agrees.false))) ∙ c.loop-i.invariant
 
 pub returns : goal.returns
 returns c =
     let l = c.loop-i in
-    sym (none_is _ (16 - l.i) l.i (λ q h m. absurd (omega arith))) ∙ l.invariant.1
+    sym (none_is _ (16 - l.i) l.i (λ q h m. absurd (omega arith))) ∙ l.invariant

@@ -1,25 +1,12 @@
--- `totals::Totals::add` meets its contract: the sums are taken out, grow and are put back.
+-- `totals::Totals::add` meets its contract: what the report brings has a place.
 -- Assumes nothing.
 use mathlib.Core.Path.{ap, ◌∙◌}
-use native.Mathlib.Omega.{arith}
-use borrow.Author.Rules.{rules}
-use mir.Val.{Fits}
-use mir.Syntax.{w64}
-use lib.ListN.{get_or}
 use Rattle.totals.specs.Adding.{with}
 use Rattle.totals.proofs.Numbers.{brings-low}
 use Rattle.totals.proofs.Totals.add.Goals as goal
 
-pub add_in-requires : goal.add_in-requires
-add_in-requires c =
-    let a = c.args in (
-      rw c.by-brought.ensures (brings-low a.report.now),
-      record {
-        sums-long = search rules;
-        marks-long = search rules;
-        words = λ i h. let f : Fits w64 (get_or a.self.sums i 0) = search rules in omega (arith, f.fits);
-      },
-    )
+pub with-requires : goal.with-requires
+with-requires c = rw c.by.ensures (brings-low c.args.report.now)
 
 pub returns : goal.returns
-returns c = c.add_in.ensures ∙ ap (with c.args.self) c.by-brought.ensures
+returns c = c.with.ensures ∙ ap (with c.args.self) c.by.ensures

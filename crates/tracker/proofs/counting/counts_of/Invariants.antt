@@ -1,6 +1,6 @@
 -- `tracker::counting::counts_of` meets its contract. The loop's invariant: the counts from here are the counts from the start.
 -- Assumes nothing.
-use Prim.Native.Nat.{◌-◌, ◌≤◌}
+use Prim.Native.Nat.{◌-◌}
 use mathlib.Core.Path.{◌≡◌}
 use Rattle.tracker.specs.Known.{most_objects}
 use Rattle.tracker.specs.Counting.{no_counts, counts_from}
@@ -9,7 +9,4 @@ use Rattle.tracker.proofs.counting.counts_of.Given as goal
 
 abbrev pub invariant-loop-place : goal.invariant-loop-place
 invariant-loop-place l =
-    (l.place ≤ most_objects) × Within l.counts l.place × (counts_from l.end l.tracker (most_objects - l.place) l.place l.counts ≡ counts_from l.end l.tracker most_objects 0 no_counts)
-
-abbrev pub decreases-loop-place : goal.decreases-loop-place
-decreases-loop-place l = most_objects - l.place
+    Within l.counts l.place × (counts_from l.end l.tracker (most_objects - l.place) l.place l.counts ≡ counts_from l.end l.tracker most_objects 0 no_counts)

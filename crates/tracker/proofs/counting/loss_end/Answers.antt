@@ -15,4 +15,4 @@ pub returns : goal.returns
 unfolding loss_end
 returns c =
     let r = c.args.tracker.now in
-    rw (ne_eqb (named_of r) 0 c.if-named-eq0.false) (c.larger_of.ensures ∙ ap (max c.args.top) (ap (◌+◌ (named_of r - 1)) (c.reach.ensures.0 ∙ ap (reach_of (interval_of r)) c.minus.ensures)))
+    rw (ne_eqb (named_of r) 0 c.if-named-eq0.false) (c.max.ensures ∙ ap (max c.args.top) (ap (◌+◌ (named_of r - 1)) (c.reach.ensures.0 ∙ ap (reach_of (interval_of r)) c.saturating_sub.ensures)))

@@ -8,7 +8,7 @@ use Rattle.tracker.proofs.Walks.{spread-next, spread-done, widened_small}
 use Rattle.tracker.proofs.counting.spread_of.Goals as goal
 
 pub loop-place-init : goal.loop-place-init
-loop-place-init c = (zero-le, zero-le, refl)
+loop-place-init c = (zero-le, refl)
 
 pub bounds-tracker-place : goal.bounds-tracker-place
 bounds-tracker-place c = omega arith
@@ -17,9 +17,9 @@ pub loop-place-preserved : goal.loop-place-preserved
 loop-place-preserved c =
     let l = c.loop-place in
     let r = c.args.tracker.now in
-    (omega arith, widened_small l.spread _ (word_at r l.place) l.place l.invariant.1 c.widened-spread.ensures, spread-next r l.place l.spread _ c.loop-place-test.true c.widened-spread.ensures ∙ l.invariant.2)
+    (widened_small l.spread _ (word_at r l.place) l.place l.invariant.0 c.widened-spread.ensures, spread-next r l.place l.spread _ c.loop-place-test.true c.widened-spread.ensures ∙ l.invariant.1)
 
 pub returns : goal.returns
 returns c =
     let l = c.loop-place in
-    (sym (spread-done c.args.tracker.now l.place l.spread c.loop-place-test.false) ∙ l.invariant.2, omega arith)
+    (sym (spread-done c.args.tracker.now l.place l.spread c.loop-place-test.false) ∙ l.invariant.1, omega arith)

@@ -9,7 +9,4 @@ use Rattle.tracker.proofs.counting.spread_of.Given as goal
 
 abbrev pub invariant-loop-place : goal.invariant-loop-place
 invariant-loop-place l =
-    (l.place ≤ most_objects) × (l.spread.latest ≤ limit) × (spread_from l.tracker (most_objects - l.place) l.place l.spread ≡ spread_from l.tracker most_objects 0 no_arrival)
-
-abbrev pub decreases-loop-place : goal.decreases-loop-place
-decreases-loop-place l = most_objects - l.place
+    (l.spread.latest ≤ limit) × (spread_from l.tracker (most_objects - l.place) l.place l.spread ≡ spread_from l.tracker most_objects 0 no_arrival)

@@ -7,4 +7,4 @@ pub returns-then-not-has_arrived : goal.returns-then-not-has_arrived
 returns-then-not-has_arrived c = rw (sym c.has_arrived.ensures ∙ c.if-not-has_arrived.true)
 
 pub returns : goal.returns
-returns c = rw (sym c.has_arrived.ensures ∙ c.if-not-has_arrived.false, c.smaller_of.ensures, c.larger_of.ensures)
+returns c = rw (sym c.has_arrived.ensures ∙ c.if-not-has_arrived.false, c.min.ensures, c.max.ensures)

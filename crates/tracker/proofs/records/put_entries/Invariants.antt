@@ -1,9 +1,7 @@
 -- `tracker::records::put_entries` meets its contract. The loop's invariant: the entries to come, laid over the buffer as it is, give the whole.
 -- Assumes nothing.
-use Prim.Native.Nat.{◌-◌, ◌≤◌}
 use lib.ListN.{length}
 use Rattle.wire.specs.Bytes.{splice}
-use Rattle.tracker.specs.Known.{most_objects}
 use Rattle.tracker.specs.Record.{known}
 use Rattle.tracker.specs.Counting.{statuses_by}
 use Rattle.tracker.proofs.Storing.{rest, Laying}
@@ -11,7 +9,4 @@ use Rattle.tracker.proofs.records.put_entries.Given as goal
 
 abbrev pub invariant-loop-place : goal.invariant-loop-place
 invariant-loop-place l =
-    (l.place ≤ most_objects) × Laying (statuses_by l.end l.tracker) (known l.tracker) l.time l.place l.at (length l.initial.buf) l.buf (splice l.initial.buf 0 (rest (statuses_by l.end l.tracker) (known l.tracker) l.time 0))
-
-abbrev pub decreases-loop-place : goal.decreases-loop-place
-decreases-loop-place l = most_objects - l.place
+    Laying (statuses_by l.end l.tracker) (known l.tracker) l.time l.place l.at (length l.initial.buf) l.buf (splice l.initial.buf 0 (rest (statuses_by l.end l.tracker) (known l.tracker) l.time 0))

@@ -16,7 +16,7 @@ use Rattle.tracker.specs.Record.{first_of, interval_of, both_obey, consistent, k
 use Rattle.tracker.specs.Report.{average_fits}
 use Rattle.tracker.proofs.Judging.{both_small}
 use Rattle.tracker.proofs.Losses.{numbers-sound, named-within}
-use Rattle.tracker.proofs.Reported.{Made, made, total-is, header_is, entries-long, few, range_small, refused-one, refused-five, refused-range, refused-room, accepted-room, answer-refused, answer-made}
+use Rattle.tracker.proofs.Reported.{Made, made, total-is, header_is, entries-long, few, refused-one, refused-five, refused-range, refused-room, accepted-room, answer-refused, answer-made}
 use Rattle.tracker.proofs.summary.report.Goals as goal
 use Rattle.tracker.proofs.summary.report.Goals.{Else-not-consistent, Else-not-both_obey, Else-not-in_range, After-mean-average}
 
@@ -30,11 +30,13 @@ small c = sym c.both_obey.ensures ∙ c.if-not-both_obey.false
 worked : (c : After-mean-average) → Made c.args.tracker.now c.args.time c.loss_end-end.result c.counts_of-counts.result c.mean-average.result
 worked c =
     made c.args.tracker.now c.args.time (sym c.consistent.ensures ∙ c.if-not-consistent.false)
-    c.spread_of-spread.ensures.0 c.loss_end-end.ensures c.counts_of-counts.ensures c.minus-gaps.ensures c.minus.ensures c.mean-average.ensures
+    c.spread_of-spread.ensures.0 c.loss_end-end.ensures c.counts_of-counts.ensures c.saturating_sub-gaps.ensures c.saturating_sub.ensures c.mean-average.ensures
 
 -- the average is in its range
 ranged : (c : Else-not-in_range) → Made c.args.tracker.now c.args.time c.loss_end-end.result c.counts_of-counts.result c.mean-average.result → average_fits (known c.args.tracker.now) ≡ true
-ranged c w = ap (λ (z : ℤ). leb (stored_of z) limit) (sym w.average) ∙ sym c.in_range.ensures ∙ c.if-not-in_range.false
+ranged c w =
+    let z = to_z-of_z w64 c.mean-average.result (record { sfits = c.mean-average.type_inv }) in
+    ap (λ (z : ℤ). leb (stored_of z) limit) (sym w.average) ∙ sym (rw z at c.in_range.ensures) ∙ c.if-not-in_range.false
 
 pub returns-then-not-consistent : goal.returns-then-not-consistent
 returns-then-not-consistent c =
@@ -65,11 +67,15 @@ returns-then-not-in_range c =
     let s = sound (goal.at.returns-then-not-in_range c).Else-not-consistent in
     let o = small (goal.at.returns-then-not-in_range c).Else-not-both_obey in
     let w = worked (goal.at.returns-then-not-in_range c).After-mean-average in
-    let no = ap (λ (z : ℤ). leb (stored_of z) limit) (sym w.average) ∙ sym c.in_range.ensures ∙ c.if-not-in_range.true in
+    let z = to_z-of_z w64 c.mean-average.result (record { sfits = c.mean-average.type_inv }) in
+    let no = ap (λ (z : ℤ). leb (stored_of z) limit) (sym w.average) ∙ sym (rw z at c.in_range.ensures) ∙ c.if-not-in_range.true in
     answer-refused a.tracker.now a.time a.interval a.entries.now {n = 4} c.refused-then-not-in_range.ensures (refused-range a.tracker.now a.time a.interval (length a.entries.now) s o no)
 
-pub signed-requires : goal.signed-requires
-signed-requires c = range_small c.mean-average.result (sym c.in_range.ensures ∙ c.if-not-in_range.false)
+pub mean-average-requires : goal.mean-average-requires
+mean-average-requires c =
+    let r = c.args.tracker.now in
+    let s = sound (goal.at.mean-average-requires c).Else-not-consistent in
+    (omega (arith, c.spread_of-spread.ensures.1), omega (arith, (both_small (first_of r + 255) (interval_of r) (numbers-sound r s)).1))
 
 pub header-header-requires : goal.header-header-requires
 header-header-requires c =
@@ -100,5 +106,5 @@ returns c =
     let total = ap (λ (h : Header). h.total) c.header-header.ensures ∙ total-is w in
     answer-made a.tracker.now a.time a.interval a.entries.now
     (accepted-room a.tracker.now a.time a.interval (length a.entries.now) (sound g.Else-not-consistent) (small g.Else-not-both_obey) (ranged g.Else-not-in_range w) (omega (arith, total, c.if-entries-header.false)))
-    (header_is w a.interval (to_z-of_z w64 c.signed.result (record { sfits = c.signed.type_inv }) ∙ c.signed.ensures) c.header-header.ensures)
+    (header_is w a.interval (to_z-of_z w64 c.mean-average.result (record { sfits = c.mean-average.type_inv })) c.header-header.ensures)
     c.put_entries.ensures w.entries

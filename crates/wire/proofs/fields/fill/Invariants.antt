@@ -1,6 +1,5 @@
 -- `wire::fields::fill` meets its contract. The loop's invariant: the bytes still to write, before those written, are the whole.
 -- Assumes nothing.
-use Prim.Native.Nat.{◌≤◌}
 use mathlib.Core.Path.{◌≡◌}
 use mathlib.Core.List.{[]}
 use lib.ListN.{length, drop}
@@ -9,7 +8,4 @@ use Rattle.wire.proofs.fields.fill.Given as goal
 
 abbrev pub invariant-loop-i : goal.invariant-loop-i
 invariant-loop-i l =
-    (l.i ≤ length l.buf) × (length l.buf ≡ length l.initial.buf) × (digits l.i l.rest (drop l.i l.buf) ≡ digits (length l.initial.buf) l.v [])
-
-abbrev pub decreases-loop-i : goal.decreases-loop-i
-decreases-loop-i l = l.i
+    digits l.i l.rest (drop l.i l.buf) ≡ digits (length l.initial.buf) l.v []

@@ -3,16 +3,12 @@
 use native.Mathlib.Omega.{arith}
 use Rattle.wire.proofs.Writing.{fixed_no, fixed-yes}
 use Rattle.wire.proofs.fields.put_fixed.Goals as goal
+use Rattle.wire.proofs.fields.put_fixed.Goals.{then-buf-at-via-then-buf-at, then-buf-at-via-else-buf-at+then-buf-at-2}
 
 pub returns-then-buf-at : goal.returns-then-buf-at
 returns-then-buf-at c =
-    let a = c.args in
-    fixed_no a.buf.now a.at a.len a.v (omega arith)
-
-pub returns-then-buf-at-2 : goal.returns-then-buf-at-2
-returns-then-buf-at-2 c =
-    let a = c.args in
-    fixed_no a.buf.now a.at a.len a.v (omega arith)
+    fixed_no c.args.buf.now c.args.at c.args.len c.args.v
+    (elim c.then-buf-at.branch [ then-buf-at-via-then-buf-at w ↦ omega arith | then-buf-at-via-else-buf-at+then-buf-at-2 w ↦ omega arith ])
 
 pub returns : goal.returns
 returns c = fixed-yes _ _ _ _ _ (omega arith) c.fill.ensures

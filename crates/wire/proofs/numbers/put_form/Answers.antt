@@ -12,11 +12,6 @@ overflow_add-n c =
     let k = c.args.code in
     omega (arith, room_of_lem k _ c.form_at-f.ensures.1, room-le k c.requires.0)
 
-pub overflow_mul-n : goal.overflow_mul-n
-overflow_mul-n c =
-    let p = c.requires in
-    omega (arith, form-fits _ _ _ p.0 p.1 c.form_at-f.ensures.1)
-
 pub overflow_add-n-2 : goal.overflow_add-n-2
 overflow_add-n-2 c =
     let p = c.requires in

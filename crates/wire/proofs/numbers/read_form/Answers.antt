@@ -2,22 +2,14 @@
 -- Assumes nothing.
 use native.Mathlib.Omega.{arith}
 use Rattle.wire.proofs.Lengths.{len-le, room-le, room_of_lem}
-use Rattle.wire.proofs.Reading.{form-ends, form-value}
+use Rattle.wire.proofs.Reading.{form-value}
 use Rattle.wire.proofs.numbers.read_form.Goals as goal
 
 pub read_fixed-requires : goal.read_fixed-requires
 read_fixed-requires c = omega (arith, len-le _ c.requires)
 
-pub returns-in_default : goal.returns-in_default
-returns-in_default c = form-ends _ _ _ _ c.form_at-f.ensures.0 c.read_fixed.ensures c.in_default.is
-
-pub overflow_add-value : goal.overflow_add-value
-overflow_add-value c =
-    let f = c in
-    omega (arith, room_of_lem _ _ f.form_at-f.ensures.1, room-le _ f.requires)
+pub overflow_add-result : goal.overflow_add-result
+overflow_add-result c = omega (arith, room_of_lem _ _ c.form_at-f.ensures.1, room-le _ c.requires)
 
 pub returns : goal.returns
-returns c =
-    let r = c in
-    let f = r in
-    form-value _ _ _ _ f.form_at-f.ensures.0 r.read_fixed.ensures _ f.form_at-f.ensures.1 c.in-Value.is
+returns c = form-value _ _ _ _ c.form_at-f.ensures.0 c.read_fixed.ensures _ c.form_at-f.ensures.1 c.in_ok-value.was

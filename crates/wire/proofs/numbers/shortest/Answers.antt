@@ -1,12 +1,9 @@
--- `wire::shortest` meets its contract: how many bits the number has says which forms are too short and which holds it.
+-- `wire::numbers::shortest` meets its contract: how many bits the number has says which forms are too short and which holds it.
 -- Assumes nothing.
-use lib.Count.{leading_le}
+use mathlib.Core.Path.{refl}
 use lib.Dec.{lit<}
 use Rattle.wire.proofs.Zeros.{one, two, four, eight, no-form, found, none}
 use Rattle.wire.proofs.numbers.shortest.Goals as goal
-
-pub overflow_sub-bits : goal.overflow_sub-bits
-overflow_sub-bits c = leading_le 64 _
 
 pub returns-then-bits-le6 : goal.returns-then-bits-le6
 returns-then-bits-le6 c = found _ 0 (one _ c.ranges.v.fits c.if-bits-le6.true) (lit< tt)
@@ -21,4 +18,4 @@ pub returns-then-bits-le62 : goal.returns-then-bits-le62
 returns-then-bits-le62 c = found _ 3 (eight _ c.ranges.v.fits c.if-bits-le30.false c.if-bits-le62.true) (lit< tt)
 
 pub returns : goal.returns
-returns c = none _ (no-form _ c.ranges.v.fits c.if-bits-le62.false)
+returns c = (refl, none _ (no-form _ c.ranges.v.fits c.if-bits-le62.false))

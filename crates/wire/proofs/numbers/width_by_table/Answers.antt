@@ -2,7 +2,6 @@
 -- Assumes nothing.
 use Prim.Native.Nat.{ℕ, suc, ◌+◌, ◌-◌, ◌<◌}
 use mathlib.Core.Path.{◌≡◌, sym, ap, ◌∙◌}
-use borrow.Author.Rules.{rules}
 use borrow.Author.Tests.{le-leb, lt-leb}
 use lib.Dec.{leb}
 use native.Mathlib.Numerals.{add-one}
@@ -28,19 +27,19 @@ none v k f e = sym (width-none v (omega arith))
 
 pub returns-then-v-f : goal.returns-then-v-f
 returns-then-v-f c =
-    let l = c.loop-k in
+    let l = c.loop-code in
     let v = c.args.v in
-    let h = c.loop-k-test.true in
-    found v l.k _ (rw (turn v l.k h, le-leb v (largest_of l.k) (omega arith)) at l.invariant.1) h c.form_at-f.ensures.0
+    let h = c.loop-code-test.true in
+    found v l.code _ (rw (turn v l.code h, le-leb v (largest_of l.code) (omega arith)) at l.invariant) h c.form_at-f.ensures.0
 
-pub loop-k-preserved : goal.loop-k-preserved
-loop-k-preserved c =
-    let l = c.loop-k in
+pub loop-code-preserved : goal.loop-code-preserved
+loop-code-preserved c =
+    let l = c.loop-code in
     let v = c.args.v in
-    (search rules, rw (turn v l.k c.loop-k-test.true, lt-leb v (largest_of l.k) (omega arith)) at l.invariant.1)
+    rw (turn v l.code c.loop-code-test.true, lt-leb v (largest_of l.code) (omega arith)) at l.invariant
 
 pub returns : goal.returns
 unfolding first_from
 returns c =
-    let e : c.loop-k.k ≡ 4 = omega arith in
-    none _ _ e (e ∙ rw e at c.loop-k.invariant.1)
+    let e : c.loop-code.code ≡ 4 = omega arith in
+    none _ _ e (e ∙ rw e at c.loop-code.invariant)

@@ -4,10 +4,11 @@ use Prim.Native.Nat.{ℕ, ◌+◌, ◌≤◌, ◌<◌}
 use mathlib.Core.List.{List, []}
 use mathlib.Core.Path.{◌≡◌, sym, ◌∙◌}
 use native.Mathlib.Omega.{arith}
+use Rattle.std.proofs.lemmas.Result.{err_from_is_err_and}
 use lib.ListN.{length, get_or, drop, drop_of_length-le, length-append}
-use Rattle.wire.specs.declared.Length.TheVariants.{Bytes}
+use Rattle.std.specs.Prelude.{Ok}
 use Rattle.wire.specs.Numbers.{limit, width_of, encode, encode_all, all_small, length_of}
-use Rattle.wire.proofs.Lengths.{width-le, width-zero, width_small}
+use Rattle.wire.proofs.Lengths.{code-small, width-le}
 use Rattle.wire.proofs.Writing.{encode-next, small-next, large-here, length-encode, large-length, bytes-length}
 use Rattle.wire.proofs.several.length_of.Goals as goal
 
@@ -22,33 +23,32 @@ turn vs i total w h l e inv =
 
 -- none is left
 done : (vs : List ℕ) (i total : ℕ) → length vs ≤ i → all_small (drop i vs) ≡ all_small vs
-    → total + length (encode_all (drop i vs)) ≡ length (encode_all vs) → Bytes total ≡ length_of vs
+    → total + length (encode_all (drop i vs)) ≡ length (encode_all vs) → Ok total ≡ length_of vs
 unfolding all_small encode_all
 done vs i total h s inv =
     let d : drop i vs ≡ [] = drop_of_length-le vs h in
     bytes-length vs total (sym (rw d at s)) (omega (arith, rw d at inv))
 
-pub returns-then-len-eq0 : goal.returns-then-len-eq0
-returns-then-len-eq0 c =
-    let l = c.loop-i in
+pub returns-in_err-fit : goal.returns-in_err-fit
+returns-in_err-fit c =
+    let l = c.loop-value in
     let vs = c.args.values.now in
-    let e : width_of (get_or vs l.i 0) ≡ 0 = sym c.width-len.ensures ∙ c.if-len-eq0.true in
-    large-length vs (sym l.invariant.2 ∙ large-here vs l.i c.loop-i-test.true (width-zero _ e))
+    let p = err_from_is_err_and c.from_residual.result c.from_residual.ensures.1 in
+    rw (p.1, p.2, c.in_err-fit.ensures.0) (large-length vs (sym l.invariant.1 ∙ large-here vs l.value-index c.loop-value-test.true c.in_err-fit.ensures.1))
 
 pub overflow_add-total : goal.overflow_add-total
-overflow_add-total c =
-    let vs = c.args.values.now in
-    omega (arith, width-le (get_or vs c.loop-i.i 0))
+overflow_add-total c = omega (arith, c.in_ok-fit.ensures, width-le (get_or c.args.values.now c.loop-value.value-index 0))
 
-pub loop-i-preserved : goal.loop-i-preserved
-loop-i-preserved c =
-    let l = c.loop-i in
-    let h = c.loop-i-test.true in
+pub loop-value-preserved : goal.loop-value-preserved
+loop-value-preserved c =
+    let l = c.loop-value in
+    let h = c.loop-value-test.true in
     let vs = c.args.values.now in
-    let s : get_or vs l.i 0 ≤ limit = width_small _ (λ e. c.if-len-eq0.false (c.width-len.ensures ∙ e)) in
-    (omega arith, omega (arith, width-le (get_or vs l.i 0)), sym (small-next vs l.i h s) ∙ l.invariant.2, turn vs l.i l.total _ h s c.width-len.ensures l.invariant.3)
+    let s : get_or vs l.value-index 0 ≤ limit = code-small _ (omega (arith, c.in_ok-fit.ensures)) in
+    let w = c.in_ok-fit.ensures.2 in
+    (omega (arith, width-le (get_or vs l.value-index 0)), sym (small-next vs l.value-index h s) ∙ l.invariant.1, turn vs l.value-index l.total _ h s w l.invariant.2)
 
 pub returns : goal.returns
 returns c =
-    let l = c.loop-i in
-    done _ l.i l.total c.loop-i-test.false l.invariant.2 l.invariant.3
+    let l = c.loop-value in
+    done _ l.value-index l.total c.loop-value-test.false l.invariant.1 l.invariant.2
