@@ -109,12 +109,14 @@ $(PROVED): $(SOURCES) Makefile
 	@{ echo create target/lib/joined.a; for crate in $(EXPORTS); do echo addlib target/staticlib/lib$$crate.a; done; echo save; echo end; } | $(AR) -M
 	@mv target/lib/joined.a $@
 
-# With the version and the texts, which are C. Each name in it is one of the library's, and stands there once.
+# With the version and the texts, which are C. Each name in it is one of the library's, and stands there once; of the host it asks for memcpy
+# and memset alone, as lumbixet.h says.
 $(ARCHIVE): $(PROVED) archive/symbols.c $(wildcard include/*.h)
 	@$(CC) $(CFLAGS) -fPIC -c archive/symbols.c -o target/lib/symbols.o
 	@cp $(PROVED) target/lib/joined.a
 	@$(AR) qD target/lib/joined.a target/lib/symbols.o
 	@$(NM) -g --defined-only target/lib/joined.a | awk 'NF == 3 && ($$3 !~ /^lumbixet_/ || names[$$3]++) { print "archive: " $$3; bad = 1 } END { exit bad || NR == 0 }'
+	@$(NM) -u target/lib/joined.a | awk '$$1 == "U" && $$2 !~ /^(memcpy|memset)$$/ { print "archive: it asks the host for " $$2; bad = 1 } END { exit bad }'
 	@mv target/lib/joined.a $@
 
 # The same as a shared library, which exports the library's own names alone.

@@ -108,14 +108,25 @@ def functions():
 
 @functools.lru_cache(maxsize=None)
 def public():
-    """The public functions of the libraries: (file, name)."""
+    """The public functions of the libraries: (file, name). A trait's function of a public type is one too, without the word."""
     found = []
     for path, name in functions():
         short = functions()[path, name]
         line = read(path).splitlines()[defined(path)[short] - 1]
-        if os.path.isfile(f"{path.split('/src/')[0]}/src/lib.rt") and line.lstrip().startswith("pub ") and "pub(crate)" not in line:
+        said = line.lstrip().startswith("pub ") and "pub(crate)" not in line
+        if os.path.isfile(f"{path.split('/src/')[0]}/src/lib.rt") and (said or is_of_trait(path, name)):
             found.append((path, name))
     return found
+
+
+def is_of_trait(path, name):
+    """Whether a function stands in a trait's impl of a public type."""
+    text = read(path)
+    start = next(at for at, one in touches.functions(path, text) if one == name)
+    head = touches.of_trait(text, start).split("\n")[0]
+    kind = touches.kind_of(head) if head else ""
+    types = [read(source) for source in glob.glob(f"{path.split('/src/')[0]}/src/*.rt")]
+    return any(re.search(rf"^pub (?:struct|enum) {kind}\b", one, re.M) for one in types) if kind else False
 
 
 @functools.lru_cache(maxsize=None)

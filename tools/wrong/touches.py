@@ -148,12 +148,27 @@ def reached(start):
     return seen
 
 
+def of_trait(text, start):
+    """The head of the trait's impl that the function there stands in, or ""; its text from the head on."""
+    before = text[:start]
+    head = before.rfind("\nimpl ") + 1
+    own = before[head:]
+    inside = re.match(r"impl .* for ", own) and not re.search(r"^}", own, re.M)
+    return own if inside else ""
+
+
+def trait_says(text, start):
+    """What stands for the contract of a trait's function: the ghost members of its impl."""
+    return "\n".join(re.findall(r"^ +ghost \w+ = \{.*", of_trait(text, start), re.M))
+
+
 def contract_and_calls(path, text, function):
     """What a function's contract mentions, and what its code calls: a name, with its type or module where the code says it."""
     start, end = next((at, after) for (at, name), (after, _) in zip(functions(path, text), functions(path, text)[1:]) if name == function)
     lines = text[start:end].splitlines()
     body = next(i for i, line in enumerate(lines) if line.strip() == "{}" or (line.endswith("{") and not re.match(CLAUSE, line)))
-    return mentioned("\n".join(lines[:body]), path), set(re.findall(r"((?:\w+::)?\w+)\(", "\n".join(lines[body:])))
+    head = "\n".join([trait_says(text, start), *lines[:body]])
+    return mentioned(head, path), set(re.findall(r"((?:\w+::)?\w+)\(", "\n".join(lines[body:])))
 
 
 def proof_files(crate, function):

@@ -4,6 +4,8 @@ ghost use Rattle.window.specs.Words.{other_than};
 ghost use Rattle.window.specs.Window.{places, lent_value, run_below, cleared_below};
 ghost use Rattle.ack.specs.Walk.{Others};
 
+use seen::numbers;
+
 // A word in which every place is marked.
 const ONES: u64 = 18446744073709551615;
 
@@ -93,7 +95,7 @@ pub(crate) fn first_size(words: &[u64; 16], least: u64) -> u64
     ensures { result ≡ run_below true places (cleared_below least (lent_value words.now)) }
 {
     let run = first_run(words);
-    let low = (window::PLACES - run).max(least);
+    let low = numbers::larger_of(window::PLACES - run, least);
     window::PLACES - low
 }
 
@@ -114,7 +116,7 @@ pub(crate) fn range_at(words: &[u64; 16], least: u64, place: u64, index: usize, 
         };
     }
     let bottom = edge_below(words, top.place, top.index, top.left, true);
-    let low = bottom.place.max(least);
+    let low = numbers::larger_of(bottom.place, least);
     Range {
         missing: place - top.place,
         size: top.place - low,

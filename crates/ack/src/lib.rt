@@ -90,8 +90,8 @@ fn write_marks(
     ensures { (result ≡ marks_answer (reported seen) time tail buf.old) × (buf.new ≡ marks_bytes (reported seen) time tail buf.old) }
 {
     let window = seen.window;
-    let delay = time.0.saturating_sub(seen.arrived.0) / 8;
-    let least = window::PLACES.saturating_sub(seen.end - seen.floor());
+    let delay = numbers::minus_or_zero(time.0, seen.arrived.0) / 8;
+    let least = numbers::minus_or_zero(window::PLACES, seen.end - seen.floor());
     let first = first_size(&window.words, least);
     let room = room_before(tail, buf.len());
     if room < first_room(seen.end - 1, first, delay) {

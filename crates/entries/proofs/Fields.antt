@@ -118,13 +118,11 @@ parts-missing b h = rw (lt-leb entry_size (length b) h)
 
 -- n is what the code read of the group
 module _ (p : Profile) (b : List ℕ) (n : Result Fixed Refusal) (e : n ≡ read_fixed (group_bytes p) b 0) where
-  pub group-ends : (r : Refusal) → n ≡ Err r → Err r ≡ entry_of p b
+  pub group-ends : (r : Refusal) → n ≡ Err r → Err Ends ≡ entry_of p b
   group-ends r t =
       split (group_bytes p) (length b)
       (λ h. never_ends (group_bytes p) b 0 n r (omega arith) t e)
-      (λ h. let f : ◌≡◌ {A = Result Fixed Refusal} (Err r) (Err Ends) = sym t ∙ e ∙ fixed-ends (group_bytes p) b 0 (omega arith) in
-      let k : r ≡ Ends = cc in
-      rw k (too_short _ (drop (group_bytes p) b) (rw (length-drop) (omega arith))))
+      (λ h. too_short _ (drop (group_bytes p) b) (rw (length-drop) (omega arith)))
 
   module _ (x : Fixed) (t : n ≡ Ok x) where
     group-fits : group_bytes p ≤ length b

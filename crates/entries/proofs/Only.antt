@@ -22,6 +22,8 @@ use Rattle.entries.proofs.Status.number.Reads as status-number
 use Rattle.entries.proofs.Status.number.Kinds as status-number-kinds
 use Rattle.entries.proofs.one.entry_of.Reads as entry_of
 use Rattle.entries.proofs.one.entry_of.Kinds as entry-of-kinds
+use Rattle.entries.proofs.ProfileTryFromU64.try_from.Reads as by-number
+use Rattle.entries.proofs.ProfileTryFromU64.try_from.Kinds as by-number-kinds
 
 pub read-entry-one : OneAnswer 1 read-entry-kinds.ps read-entry-kinds.r read-entry.Post
 read-entry-one κs given x y s t p q = p ∙ sym q
@@ -52,3 +54,6 @@ entry-of-one κs given x y s t p q = p ∙ sym q
 
 pub status-number-one : OneAnswer 0 status-number-kinds.ps status-number-kinds.r status-number.Post
 status-number-one κs given x y s t p q = p ∙ sym q
+
+pub profile-by-one : OneAnswer 0 by-number-kinds.ps by-number-kinds.r by-number.Post
+profile-by-one κs given x y s t p q = p ∙ sym q

@@ -22,8 +22,10 @@ fn group_in(profile: Profile, bytes: &[u8]) -> Result<Fixed, Refusal>
 pub fn entry_of(profile: Profile, bytes: &[u8]) -> Result<Entry, Refusal>
     ensures { result ≡ entry_of profile bytes.now }
 {
-    let group = group_in(profile, bytes)?;
-    entry_behind(group.value, &bytes[group.next..])
+    let Ok(Fixed { value, next }) = group_in(profile, bytes) else {
+        return Err(Refusal::Ends);
+    };
+    entry_behind(value, &bytes[next..])
 }
 
 // The entry in the 16 bytes behind the group.

@@ -12,8 +12,12 @@ use wire::Refusal;
 pub fn read_event(s: &[u8]) -> Result<Event, Refusal>
     ensures { result ≡ read_event s.now }
 {
-    let number = wire::read_fixed8(s, 8)?;
-    let time = wire::read_fixed8(s, 16)?;
+    let Ok(number) = wire::read_fixed8(s, 8) else {
+        return Err(Refusal::Ends);
+    };
+    let Ok(time) = wire::read_fixed8(s, 16) else {
+        return Err(Refusal::Ends);
+    };
     Ok(Event {
         kind: s[0],
         flags: s[1],

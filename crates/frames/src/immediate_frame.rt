@@ -25,6 +25,5 @@ pub fn read_immediate(s: &[u8]) -> Result<usize, Refusal>
 pub fn put_immediate(buf: &mut [u8]) -> Result<usize, Refusal>
     ensures { (result ≡ put_answer buf.old 0 immediate) × (buf.new ≡ put_bytes buf.old 0 immediate) }
 {
-    let kind: [u64; 1] = [IMMEDIATE_ACK];
-    wire::put_numbers(buf, 0, &kind)
+    wire::put_number(buf, 0, IMMEDIATE_ACK)
 }

@@ -3,9 +3,17 @@
 
 #![tactic(auto)]
 
-ghost use Rattle.std.specs.Prelude.{◌≡◌, ◌-◌, length, take};
+ghost use Rattle.std.specs.Prelude.{◌≡◌, ◌+◌, ◌-◌, length, take};
 ghost use Rattle.wire.specs.Bytes.{splice};
 ghost use Rattle.marks.specs.Marks.{mark, first_in, found_below, listed, with_range};
+
+// The larger of two numbers: the largest acknowledged is that over all frames so far. It is the library's, under a name of its own since a
+// theorem says of it that no other result would do, and of a function of the library none can be stated here.
+pub fn larger(a: u64, b: u64) -> u64
+    ensures { result ≡ a + (b - a) }
+{
+    a.max(b)
+}
 
 // Marks the numbers from `from` on and below `to`, word by word.
 pub fn add_range(words: &mut [u64; 16], from: u64, to: u64)

@@ -38,11 +38,16 @@ fn next_field(state: &[u64; WORDS], carried: usize, part: &[u8]) -> Result<Numbe
     let held = held_in(state, carried);
     let field = joined(held, carried, &part[..more]);
     let length = carried + more;
-    let Number {
-        value,
-        next,
-        shortest,
-    } = wire::read_number(&field[..length], 0)?;
+    let Ok(
+        Number {
+            value,
+            next,
+            shortest,
+        },
+    ) = wire::read_number(&field[..length], 0)
+    else {
+        return Err(Refusal::Ends);
+    };
     Ok(Number {
         value,
         next: next - carried,

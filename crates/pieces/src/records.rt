@@ -10,6 +10,17 @@ use crate::words::held_in;
 use crate::{COUNTING, Marks, RECORDS, WORDS, Walked};
 use entries::{Profile, good_run, record_size, records_in};
 
+// Copies from over the whole of to, which is as long. It goes by place: where two lent parts may overlap for all that the compiler knows,
+// `copy_from_slice` asks the host for memmove, and the archive asks for memcpy and memset alone.
+fn copy(to: &mut [u8], from: &[u8])
+    requires { length to.old ≡ length from.now }
+    ensures { to.new ≡ from.now }
+{
+    for i in 0..from.len() {
+        to[i] = from[i];
+    }
+}
+
 // A bad record came: the bytes of those still to come are counted on.
 fn after_bad(profile: Profile, from: Marks, left: u64, taken: usize, records: usize) -> Walked
     requires { left ≤ 200 }
@@ -103,7 +114,7 @@ pub(crate) fn in_place(
     let run = good_run(profile, from.last, from.above, &part[..bytes]);
     let good = run.good;
     let end = size * good;
-    out[..end].copy_from_slice(&part[..end]);
+    copy(&mut out[..end], &part[..end]);
     if good < n {
         return after_bad(profile, from, left - 1 - good as u64, end + size, good);
     }

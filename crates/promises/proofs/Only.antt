@@ -1,9 +1,7 @@
 -- Only one, for the window: two results that meet the contract of a public call, as its source states it, are equal, and so are the lent words that they leave.
 -- The calls of the other crates have theirs in proofs/Only.antt of each.
 -- Assumes nothing.
-use Prim.Native.Nat.{ℕ, ◌-◌}
-use mathlib.Core.Path.{◌≡◌, refl, sym, ◌∙◌}
-use Rattle.std.specs.Prelude.{max}
+use mathlib.Core.Path.{refl, sym, ◌∙◌}
 use Rattle.wire.proofs.Only.{OneAnswer, OneBuffer}
 use Rattle.window.proofs.Window.empty.Reads as empty
 use Rattle.window.proofs.Window.empty.Kinds as empty-kinds
@@ -40,10 +38,3 @@ run-below-one κs given x y s t p q = p ∙ sym q
 
 pub none_below_one : OneAnswer 1 none-below-kinds.ps none-below-kinds.r none_below.Post
 none_below_one κs given x y s t p q = p ∙ sym q
-
--- what the library's `saturating_sub` and `max` answer, by which numbers are taken off and floors are raised
-pub minus-or-zero-one : (a b x y : ℕ) → x ≡ a - b → y ≡ a - b → x ≡ y
-minus-or-zero-one a b x y p q = p ∙ sym q
-
-pub larger-of-one : (a b x y : ℕ) → x ≡ max a b → y ≡ max a b → x ≡ y
-larger-of-one a b x y p q = p ∙ sym q

@@ -127,7 +127,7 @@ impl Receiver {
     fn timer_due(self, time: Micros) -> bool
         ensures { result ≡ timer_due self time }
     {
-        let waited = time.0.saturating_sub(self.pending.first.0);
+        let waited = numbers::minus_or_zero(time.0, self.pending.first.0);
         self.pending.count != 0 && self.agreed.delay.0 <= waited
     }
 

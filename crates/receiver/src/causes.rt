@@ -6,7 +6,7 @@ ghost use Rattle.seen.specs.Received.{over};
 ghost use Rattle.receiver.specs.Packet.{InRange, out_of_order, gap_reached, order, congestion, first_cause, cause_after};
 
 use crate::{Pending, Receiver};
-use seen::Seen;
+use seen::{Seen, numbers};
 
 // R = 1 (RFC 9000 13.2.1): below the earlier H, or above it with a number between missing.
 fn out_of_order(words: &[u64; 16], seen: Seen, number: u64, highest: u64) -> bool
@@ -24,7 +24,7 @@ fn gap_reached(words: &[u64; 16], seen: Seen, reach: u64, acknowledged: u64, end
     requires { (reach < places) × InRange seen end }
     ensures { result ≡ gap_reached (over words.now seen) reach acknowledged end }
 {
-    let from = acknowledged.saturating_sub(reach);
+    let from = numbers::minus_or_zero(acknowledged, reach);
     match seen.first_missing_in(words, from, end - 1) {
         Some(place) => place + seen.end + reach <= end + window::LAST,
         None => false,

@@ -18,7 +18,7 @@ impl Pending {
         requires { (number ≤ limit) × (self.count ≤ limit + 1) }
         ensures { result ≡ pending_after self number time }
     {
-        let end = self.end.max(number + 1);
+        let end = numbers::larger_of(self.end, number + 1);
         let count = self.count;
         if count == 0 {
             return Pending {
@@ -99,7 +99,7 @@ impl Receiver {
             };
         }
         let pending = waiting.with(number, time);
-        let highest = self.highest.max(number + 1);
+        let highest = numbers::larger_of(self.highest, number + 1);
         let cause = self.cause_after(words, number, ce, seen, pending);
         let agreed = self.agreed;
         let limits = self.limits;

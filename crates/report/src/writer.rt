@@ -53,6 +53,17 @@ fn store_numbers(buf: &mut [u8], numbers: &[u64])
     }
 }
 
+// Copies from over the whole of to, which is as long. It goes by place: where two lent parts may overlap for all that the compiler knows,
+// `copy_from_slice` asks the host for memmove, and the archive asks for memcpy and memset alone.
+fn copy(to: &mut [u8], from: &[u8])
+    requires { length to.old ≡ length from.now }
+    ensures { to.new ≡ from.now }
+{
+    for i in 0..from.len() {
+        to[i] = from[i];
+    }
+}
+
 // Writes the numbers, and from at on the records; both fit.
 fn store(buf: &mut [u8], at: usize, numbers: &[u64], records: &[u8])
     requires { (all_small numbers.now ≡ true) × ((at ≡ length (encode_all numbers.now)) × (at + length records.now ≤ length buf.old)) }
@@ -60,7 +71,7 @@ fn store(buf: &mut [u8], at: usize, numbers: &[u64], records: &[u8])
 {
     store_numbers(buf, numbers);
     let end = at + records.len();
-    buf[at..end].copy_from_slice(records);
+    copy(&mut buf[at..end], records);
 }
 
 // Writes a report of a profile: the header, which calls take by value, and the last of the records that fit, at most the maximum;

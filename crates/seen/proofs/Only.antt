@@ -8,6 +8,10 @@ use Rattle.seen.proofs.numbers.all_small.Reads as all_small
 use Rattle.seen.proofs.numbers.all_small.Kinds as all-small-kinds
 use Rattle.seen.proofs.numbers.is_small_end.Reads as is-small-end
 use Rattle.seen.proofs.numbers.is_small_end.Kinds as is-small-end-kinds
+use Rattle.seen.proofs.numbers.minus_or_zero.Reads as minus-or-zero
+use Rattle.seen.proofs.numbers.minus_or_zero.Kinds as minus-or-zero-kinds
+use Rattle.seen.proofs.numbers.larger_of.Reads as larger-of
+use Rattle.seen.proofs.numbers.larger_of.Kinds as larger-of-kinds
 use Rattle.seen.proofs.Seen.numbers_obey.Reads as numbers-obey
 use Rattle.seen.proofs.Seen.numbers_obey.Kinds as numbers-obey-kinds
 use Rattle.seen.proofs.Seen.consistent.Reads as consistent
@@ -33,6 +37,12 @@ all-small-one κs given x y s t p q = p ∙ sym q
 
 pub is-small-end-one : OneAnswer 0 is-small-end-kinds.ps is-small-end-kinds.r is-small-end.Post
 is-small-end-one κs given x y s t p q = p ∙ sym q
+
+pub minus-or-zero-one : OneAnswer 0 minus-or-zero-kinds.ps minus-or-zero-kinds.r minus-or-zero.Post
+minus-or-zero-one κs given x y s t p q = p ∙ sym q
+
+pub larger-of-one : OneAnswer 0 larger-of-kinds.ps larger-of-kinds.r larger-of.Post
+larger-of-one κs given x y s t p q = p ∙ sym q
 
 pub numbers-obey-one : OneAnswer 0 numbers-obey-kinds.ps numbers-obey-kinds.r numbers-obey.Post
 numbers-obey-one κs given x y s t p q = p ∙ sym q

@@ -12,7 +12,7 @@ impl Seen {
     {
         numbers::is_small_end(self.end)
             && numbers::is_small(self.arrived.0)
-            && self.confirmed <= self.end.saturating_sub(1)
+            && self.confirmed <= numbers::minus_or_zero(self.end, 1)
     }
 
     // Whether the marks of the lent words fit the end of L. From 1,024 numbers on every place stands for one, and the words are not looked through.

@@ -13,7 +13,7 @@ fn place_of(end: u64, number: u64) -> u64
     requires { number ≤ end }
     ensures { result ≡ place_of end number }
 {
-    window::PLACES.saturating_sub(end - number)
+    numbers::minus_or_zero(window::PLACES, end - number)
 }
 
 impl Seen {
@@ -21,8 +21,8 @@ impl Seen {
     pub fn floor(self) -> u64
         ensures { result ≡ floor self }
     {
-        let lowest = self.end.saturating_sub(window::PLACES);
-        self.confirmed.max(lowest)
+        let lowest = numbers::minus_or_zero(self.end, window::PLACES);
+        numbers::larger_of(self.confirmed, lowest)
     }
 
     // Whether the number can be accepted: it is refused below the floor, and from it on where it is marked in the lent words.
@@ -76,10 +76,10 @@ impl Seen {
         if !numbers::is_small(k) {
             return self;
         }
-        let largest = self.end.saturating_sub(1);
+        let largest = numbers::minus_or_zero(self.end, 1);
         let risen = (k + 1).min(largest);
         Seen {
-            confirmed: self.confirmed.max(risen),
+            confirmed: numbers::larger_of(self.confirmed, risen),
             ..self
         }
     }
@@ -90,7 +90,7 @@ impl Seen {
         ensures { result ≡ first_missing (over words.now self) from to }
     {
         let end = self.end;
-        let low = from.max(self.floor());
+        let low = numbers::larger_of(from, self.floor());
         let high = to.min(end);
         if high <= low {
             return None;

@@ -1,5 +1,5 @@
-// Numbers, times and ends: which are small enough.
-ghost use Rattle.std.specs.Prelude.{◌≡◌, ◌&&◌};
+// Numbers, times and ends: which are small enough, and arithmetic that stays in range.
+ghost use Rattle.std.specs.Prelude.{◌≡◌, ◌&&◌, ◌-◌, max};
 ghost use Rattle.seen.specs.Numbers.{small, small_end};
 
 // The largest number and time: 2^62 - 1.
@@ -27,4 +27,20 @@ pub fn is_small_end(end: u64) -> bool
     ensures { result ≡ small_end end }
 {
     end <= MOST
+}
+
+// The two that follow are the library's. They have names of their own since a theorem of each says that no other result would do,
+// and of a function of the library none can be stated here.
+
+// a less b, and 0 where b is larger.
+pub fn minus_or_zero(a: u64, b: u64) -> u64
+    ensures { result ≡ a - b }
+{
+    a.saturating_sub(b)
+}
+
+pub fn larger_of(a: u64, b: u64) -> u64
+    ensures { result ≡ max a b }
+{
+    a.max(b)
 }

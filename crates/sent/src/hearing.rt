@@ -9,7 +9,7 @@ ghost use Rattle.sent.specs.Heard.{FrameMarks, Either, Without, AckedAnew, LostA
 use crate::record::{consistent, due_marks, floor_of};
 use crate::{AT_ACKED_BEFORE, AT_END, AT_LOST, AT_LOST_BEFORE, AT_NEXT, Reply, WORDS};
 use frames::{Checked, Range};
-use marks::{add_range, count_marks, list_marks};
+use marks::{add_range, count_marks, larger, list_marks};
 use wire::Refusal;
 
 // The marks of a checked frame's numbers among those from the oldest held on.
@@ -33,7 +33,7 @@ fn frame_marks(s: &[u8], checked: &Checked, floor: u64) -> [u64; 16]
         else {
             return words;
         };
-        add_range(&mut words, smallest.max(floor), high + 1);
+        add_range(&mut words, larger(smallest, floor), high + 1);
         if left == 0 {
             return words;
         }
@@ -124,7 +124,7 @@ fn hear_ranges(
 {
     let next = losses[AT_NEXT];
     let floor = floor_of(next);
-    let end = losses[AT_END].max(checked.largest + 1);
+    let end = larger(losses[AT_END], checked.largest + 1);
     let frame = frame_marks(s, checked, floor);
     let due = due_marks(floor, end);
     let new_acked = acked_anew(losses, &frame);

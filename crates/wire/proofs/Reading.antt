@@ -6,7 +6,7 @@ use mathlib.Core.Bool.{Bool, true, false}
 use mathlib.Core.List.{List, [], ◌∷◌}
 use native.Mathlib.Omega.{arith}
 use borrow.Author.Tests.{le-leb, lt-leb}
-use lib.Dec.{ltb}
+use lib.Dec.{ltb, leb}
 use lib.ListN.{length, get_or, take, drop}
 use lib.Pow.{pow_pos}
 use lib.Seq.{drop-cons}
@@ -67,7 +67,21 @@ module _ {R : Type 0} {b : Bool} {x : R} (p q : R) where
 
 -- ---- a field in the form of code k: len and big are what the table says of the code
 
+-- such a field is refused where the bytes end in it, and for nothing else
+form-refused : (k len : ℕ) (s : List ℕ) (at : ℕ) {refusal : Refusal} → below_code k (read_fixed len s at) ≡ Err refusal → refusal ≡ Ends
+unfolding read_fixed
+form-refused k len s at {refusal} = go (leb (at + len) (length s))
+  where
+    go : (b : Bool) → below_code k (pick b (whole (be 0 (take len (drop at s))) (at + len)) (Err Ends)) ≡ Err refusal → refusal ≡ Ends
+    go true t = absurd (cc)
+    go false t = cc
+
 module _ (k len : ℕ) (s : List ℕ) (at : ℕ) {n : Result Fixed Refusal} (f : len ≡ len_of k) (e : n ≡ read_fixed len s at) where
+  pub form-ends : {refusal : Refusal} → n ≡ Err refusal → Err Ends ≡ below_code k (read_fixed (len_of k) s at)
+  form-ends t =
+      let g : Err _ ≡ below_code k (read_fixed (len_of k) s at) = ap (below_code k) (sym t ∙ rw f at e) in
+      ap Err (sym (form-refused k (len_of k) s at (sym g))) ∙ g
+
   pub form-value : (big : ℕ) {v next : ℕ} → big ≡ largest_of k → n ≡ whole v next → whole (v % (big + 1)) next ≡ below_code k (read_fixed (len_of k) s at)
   form-value big {v} {next} g t = rw (room_of_lem k big g) (ap (below_code k) (sym t ∙ rw f at e))
 
@@ -93,11 +107,21 @@ number-ends s at h =
     let k : ℕ = get_or s at 0 / 64 in
     ap (in_form k) (fixed-ends (len_of k) s at (omega (arith, pow_pos k)))
 
+-- a number is refused where the bytes end in it, and for nothing else
+pub number-refused : (s : List ℕ) (at : ℕ) {refusal : Refusal} → read_number s at ≡ Err refusal → refusal ≡ Ends
+unfolding read_number read_form read_fixed
+number-refused s at {refusal} = go (leb (at + len_of (get_or s at 0 / 64)) (length s))
+  where
+    go : (b : Bool) → in_form (get_or s at 0 / 64) (pick b (whole (be 0 (take (len_of (get_or s at 0 / 64)) (drop at s))) (at + len_of (get_or s at 0 / 64))) (Err Ends)) ≡ Err refusal
+        → refusal ≡ Ends
+    go true t = absurd (cc)
+    go false t = cc
+
 -- small is the largest value that the table gives the code before it
 module _ (s : List ℕ) (at k : ℕ) {n : Result Fixed Refusal} (h : get_or s at 0 / 64 ≡ k) (e : n ≡ below_code k (read_fixed (len_of k) s at)) where
-  pub number_cut : {refusal : Refusal} → n ≡ Err refusal → Err refusal ≡ read_number s at
+  pub number_cut : {refusal : Refusal} → n ≡ Err refusal → Err Ends ≡ read_number s at
   unfolding read_number read_form
-  number_cut t = rw h (ap (with_form k) (sym t ∙ e))
+  number_cut t = rw h (ap Err (sym (form-refused k (len_of k) s at (sym e ∙ t))) ∙ ap (with_form k) (sym t ∙ e))
 
   number_is : {v next : ℕ} → n ≡ whole v next → found v next (is_shortest k v) ≡ read_number s at
   unfolding read_number read_form

@@ -57,7 +57,9 @@ fn read_form(s: &[u8], at: usize, code: usize) -> Result<Fixed, Refusal>
     ensures { result ≡ below_code code (read_fixed (len_of code) s.now at) }
 {
     let f = form_at(code);
-    let Fixed { value, next } = read_fixed(s, at, f.len)?;
+    let Ok(Fixed { value, next }) = read_fixed(s, at, f.len) else {
+        return Err(Refusal::Ends);
+    };
     Ok(Fixed {
         value: value % (f.largest + 1),
         next,
@@ -83,7 +85,9 @@ fn read_longer(s: &[u8], at: usize) -> Result<Number, Refusal>
     ensures { result ≡ read_number s.now at }
 {
     let code = usize::from(s[at] / 64);
-    let Fixed { value, next } = read_longer_form(s, at, code)?;
+    let Ok(Fixed { value, next }) = read_longer_form(s, at, code) else {
+        return Err(Refusal::Ends);
+    };
     let shorter = form_at(code - 1);
     let shortest = shorter.largest < value;
     Ok(Number {

@@ -38,16 +38,16 @@ whole c = consistent-reported c.args.seen c.requires.0 c.requires.1
 some : (c : After-first_size-first) → Begun (reported c.args.seen)
 some c = begun-reported c.args.seen c.requires.0 c.requires.1
 
-small : (c : After-first_size-first) → c.saturating_sub-delay.result / 8 ≤ limit
-small c = let a = c.args in small-delay (reported a.seen) a.time a.tail a.buf.now (whole c) c.requires.2 c.requires.1 c.saturating_sub-delay.ensures
+small : (c : After-first_size-first) → c.minus_or_zero-delay.result / 8 ≤ limit
+small c = let a = c.args in small-delay (reported a.seen) a.time a.tail a.buf.now (whole c) c.requires.2 c.requires.1 c.minus_or_zero-delay.ensures
 
-from-floor : (c : After-first_size-first) → c.saturating_sub-least.result ≡ bottom c.args.seen
+from-floor : (c : After-first_size-first) → c.minus_or_zero-least.result ≡ bottom c.args.seen
 from-floor c =
     let f = floor-below c.args.seen c.requires.0 c.requires.1 in
-    place-left c.floor.ensures (omega (arith, f)) c.saturating_sub-least.ensures
+    place-left c.floor.ensures (omega (arith, f)) c.minus_or_zero-least.ensures
 
 abbrev marks : After-first_size-first → Seen
-marks c = marks_from c.args.seen.window.words c.args.seen.end c.saturating_sub-least.result
+marks c = marks_from c.args.seen.window.words c.args.seen.end c.minus_or_zero-least.result
 
 consistent : (c : After-first_size-first) → seen_consistent (marks c) ≡ true
 consistent c = from-consistent c.args.seen (own c) (from-floor c) c.requires.0 c.requires.1
@@ -58,8 +58,8 @@ firsts c = from_first c.args.seen (own c) (from-floor c) c.first_size-first.ensu
 
 -- the room of the first range alone, by the lent words and by the record
 rooms : (c : After-first_size-first) {m : ℕ}
-    → m ≡ 2 + width_of (c.args.seen.end - 1) + width_of (c.saturating_sub-delay.result / 8) + width_of (c.first_size-first.result - 1)
-    → (m ≡ length (frame (marks c) None (c.saturating_sub-delay.result / 8) 1)) × (m ≡ length (frame (reported c.args.seen) None (c.saturating_sub-delay.result / 8) 1))
+    → m ≡ 2 + width_of (c.args.seen.end - 1) + width_of (c.minus_or_zero-delay.result / 8) + width_of (c.first_size-first.result - 1)
+    → (m ≡ length (frame (marks c) None (c.minus_or_zero-delay.result / 8) 1)) × (m ≡ length (frame (reported c.args.seen) None (c.minus_or_zero-delay.result / 8) 1))
 rooms c e =
     let b = begun (marks c) (consistent c) c.requires.1 in (
       e ∙ first-is-room b (small c) (first-is b _ (firsts c).0) refl refl refl,
@@ -68,19 +68,19 @@ rooms c e =
 
 -- the body, by the record
 abbrev written : After-first_size-first → ℕ → List ℕ
-written c room = body (reported c.args.seen) (type_of c.args.tail) (c.saturating_sub-delay.result / 8) (ranges_kept (reported c.args.seen) None (c.saturating_sub-delay.result / 8) room)
+written c room = body (reported c.args.seen) (type_of c.args.tail) (c.minus_or_zero-delay.result / 8) (ranges_kept (reported c.args.seen) None (c.minus_or_zero-delay.result / 8) room)
 
 bodied : (c : After-first_size-first) (room : ℕ) {end : ℕ} {ys : List ℕ}
-    → end ≡ length (body (marks c) (type_of c.args.tail) (c.saturating_sub-delay.result / 8) (ranges_kept (marks c) None (c.saturating_sub-delay.result / 8) room))
-    → ys ≡ splice c.args.buf.now 0 (body (marks c) (type_of c.args.tail) (c.saturating_sub-delay.result / 8) (ranges_kept (marks c) None (c.saturating_sub-delay.result / 8) room))
+    → end ≡ length (body (marks c) (type_of c.args.tail) (c.minus_or_zero-delay.result / 8) (ranges_kept (marks c) None (c.minus_or_zero-delay.result / 8) room))
+    → ys ≡ splice c.args.buf.now 0 (body (marks c) (type_of c.args.tail) (c.minus_or_zero-delay.result / 8) (ranges_kept (marks c) None (c.minus_or_zero-delay.result / 8) room))
     → (end ≡ length (written c room)) × (ys ≡ splice c.args.buf.now 0 (written c room))
 bodied c room h k =
-    let e = from-body c.args.seen (own c) (from-floor c) (type_of c.args.tail) (c.saturating_sub-delay.result / 8) room in
+    let e = from-body c.args.seen (own c) (from-floor c) (type_of c.args.tail) (c.minus_or_zero-delay.result / 8) room in
     (h ∙ ap length e, k ∙ ap (splice c.args.buf.now 0) e)
 
 kept : (c : After-first_size-first) (room : ℕ) {m : ℕ}
-    → m ≡ 2 + width_of (c.args.seen.end - 1) + width_of (c.saturating_sub-delay.result / 8) + width_of (c.first_size-first.result - 1) → m ≤ room
-    → ranges_kept (reported c.args.seen) None (c.saturating_sub-delay.result / 8) room ≡ 0 → ⊥
+    → m ≡ 2 + width_of (c.args.seen.end - 1) + width_of (c.minus_or_zero-delay.result / 8) + width_of (c.first_size-first.result - 1) → m ≤ room
+    → ranges_kept (reported c.args.seen) None (c.minus_or_zero-delay.result / 8) room ≡ 0 → ⊥
 kept c room e l = first-kept (some c) (small c) (omega (arith, l, (rooms c e).1))
 
 pub overflow_sub-seen : goal.overflow_sub-seen
@@ -89,7 +89,7 @@ overflow_sub-seen c = omega (arith, c.floor.ensures, floor-below c.args.seen c.r
 pub first_size-first-requires : goal.first_size-first-requires
 first_size-first-requires c =
     let f = floor-below c.args.seen c.requires.0 c.requires.1 in
-    omega (arith, c.floor.ensures, c.saturating_sub-least.ensures, f)
+    omega (arith, c.floor.ensures, c.minus_or_zero-least.ensures, f)
 
 pub room_before-room-requires : goal.room_before-room-requires
 room_before-room-requires c = c.requires.3
@@ -106,7 +106,7 @@ pub returns-then-room-first_room : goal.returns-then-room-first_room
 returns-then-room-first_room c =
     let f = (goal.at.returns-then-room-first_room c).After-first_size-first in
     let a = c.args in
-    let w = wrote_none (reported a.seen) a.time a.tail a.buf.now (whole f) c.requires.2 c.requires.1 c.saturating_sub-delay.ensures c.room_before-room.ensures
+    let w = wrote_none (reported a.seen) a.time a.tail a.buf.now (whole f) c.requires.2 c.requires.1 c.minus_or_zero-delay.ensures c.room_before-room.ensures
     (none_kept (some f) (small f) (omega (arith, c.if-room-first_room.true, (rooms f c.first_room.ensures).1))) refl in
     w
 
@@ -120,7 +120,7 @@ put_counts-requires c =
     let f = (goal.at.put_counts-requires c).After-first_size-first in
     let a = c.args in
     let k = kept f c.room_before-room.result c.first_room.ensures c.if-room-first_room.false in
-    let b = body-fits (reported a.seen) a.time a.tail a.buf.now (whole f) c.requires.2 c.requires.1 c.saturating_sub-delay.ensures c.room_before-room.ensures refl k in
+    let b = body-fits (reported a.seen) a.time a.tail a.buf.now (whole f) c.requires.2 c.requires.1 c.minus_or_zero-delay.ensures c.room_before-room.ensures refl k in
     let l : length c.put_body-end.new.buf ≡ length a.buf.now = c.put_body-end.auto.buf in
     (c.requires.3, omega (arith, b, l, (bodied f c.room_before-room.result c.put_body-end.ensures.0 c.put_body-end.ensures.1).0))
 
@@ -130,4 +130,4 @@ returns c =
     let a = c.args in
     let k = kept f c.room_before-room.result c.first_room.ensures c.if-room-first_room.false in
     let b = bodied f c.room_before-room.result c.put_body-end.ensures.0 c.put_body-end.ensures.1 in
-    wrote-frame (reported a.seen) a.time a.tail a.buf.now (whole f) c.requires.2 c.requires.1 c.saturating_sub-delay.ensures c.room_before-room.ensures refl k b.0 b.1 c.put_counts.ensures.0 c.put_counts.ensures.1
+    wrote-frame (reported a.seen) a.time a.tail a.buf.now (whole f) c.requires.2 c.requires.1 c.minus_or_zero-delay.ensures c.room_before-room.ensures refl k b.0 b.1 c.put_counts.ensures.0 c.put_counts.ensures.1

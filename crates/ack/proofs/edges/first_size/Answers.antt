@@ -12,9 +12,9 @@ pub overflow_sub-run : goal.overflow_sub-run
 overflow_sub-run c = omega (arith, c.first_run-run.ensures, run-le true 1024 (lent_value c.args.words.now))
 
 pub overflow_sub-result : goal.overflow_sub-result
-overflow_sub-result c = omega (arith, c.max-low.ensures, c.requires)
+overflow_sub-result c = omega (arith, c.larger_of-low.ensures, c.requires)
 
 pub returns : goal.returns
 returns c =
-    ap (λ (m : ℕ). 1024 - m) (c.max-low.ensures ∙ ap (λ (m : ℕ). max (1024 - m) c.args.least) c.first_run-run.ensures)
+    ap (λ (m : ℕ). 1024 - m) (c.larger_of-low.ensures ∙ ap (λ (m : ℕ). max (1024 - m) c.args.least) c.first_run-run.ensures)
     ∙ sym (run-cut c.args.least (lent_value c.args.words.now) 1024 c.requires)

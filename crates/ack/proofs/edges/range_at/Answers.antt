@@ -21,17 +21,17 @@ returns c =
     let a = c.args in
     let w : ℕ = lent_value a.words.now in
     let t : ℕ = c.edge_below-top.result.place in
-    let low : ℕ = c.max-low.result in
+    let low : ℕ = c.larger_of-low.result in
     let at : t ≡ a.place - run_below false a.place w = c.edge_below-top.ensures.0 in
     let i₁ : t ≤ a.place = omega (arith, at) in
     let i₂ : c.edge_below-bottom.result.place ≤ t = omega (arith, c.edge_below-bottom.ensures.0) in
     let le = run-le false a.place w in
     let g = gap-kept a.least w a.place (omega (arith, at, c.if-top-least.false)) in
     let top : t ≡ a.place - run_below false a.place (cleared_below a.least w) = at ∙ ap (λ (n : ℕ). a.place - n) (sym g) in
-    let under : low ≡ max (t - run_below true t w) a.least = c.max-low.ensures ∙ ap (λ (n : ℕ). max n a.least) c.edge_below-bottom.ensures.0 in (
+    let under : low ≡ max (t - run_below true t w) a.least = c.larger_of-low.ensures ∙ ap (λ (n : ℕ). max n a.least) c.edge_below-bottom.ensures.0 in (
       omega (arith, at, g, le),
       ap (λ (n : ℕ). t - n) under ∙ sym (run-cut a.least w t c.if-top-least.false) ∙ ap (λ (n : ℕ). run_below true n (cleared_below a.least w)) top,
       λ l.
-          let b : c.edge_below-bottom.result.place ≡ a.place - (a.place - t) - (t - low) = uncut i₁ i₂ c.if-top-least.false c.max-low.ensures l in
+          let b : c.edge_below-bottom.result.place ≡ a.place - (a.place - t) - (t - low) = uncut i₁ i₂ c.if-top-least.false c.larger_of-low.ensures l in
           subst (λ (n : ℕ). Others false w n c.edge_below-bottom.result.index c.edge_below-bottom.result.left) b c.edge_below-bottom.ensures.1,
     )

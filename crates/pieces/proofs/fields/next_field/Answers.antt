@@ -7,8 +7,9 @@ use mathlib.Core.List.{List, ◌++◌}
 use lib.ListN.{length, take}
 use lib.Seq.{length-take-le}
 use Rattle.wire.specs.Numbers.{read_number}
-use Rattle.std.proofs.lemmas.Result.{err_from_is_err_and}
 use Rattle.wire.specs.Fields.{found}
+use Rattle.wire.proofs.Reading.{number-refused}
+use Rattle.std.specs.Prelude.{Err}
 use Rattle.pieces.specs.Reading.{shifted}
 use Rattle.pieces.specs.Record.{held_in}
 use Rattle.pieces.proofs.Loading.{held-long, first-octet}
@@ -47,20 +48,20 @@ joined-field-requires c =
 pub slice_bounds-read_number-end : goal.slice_bounds-read_number-end
 slice_bounds-read_number-end c = sym (length-take-le _ _ (omega (arith, c.joined-field.ensures.0, c.min-more.ensures)))
 
-pub returns-in_err-value : goal.returns-in_err-value
-returns-in_err-value c =
-    let p = err_from_is_err_and c.from_residual.result c.from_residual.ensures.1 in
-    rw (p.1, p.2) (ap (shifted c.args.carried 0) (sym c.in_err-value.was ∙ c.read_number-2.ensures ∙ read-on (goal.at.returns-in_err-value c).After-joined-field))
+pub returns-in_default : goal.returns-in_default
+returns-in_default c =
+    let e = sym (read-on (goal.at.returns-in_default c).After-joined-field) ∙ sym c.read_number-2.ensures ∙ c.in_default.is in
+    rw e (ap Err (sym (number-refused _ 0 e)))
 
 pub overflow_sub-result : goal.overflow_sub-result
 overflow_sub-result c =
     let a = c.args in
     let l : length (take a.carried (held_in a.state.now)) ≡ a.carried = size (goal.at.overflow_sub-result c).After-joined-field in
-    omega (arith, value-past (take a.carried (held_in a.state.now)) a.part.now _ _ _ c.requires.1 (sym (read-on (goal.at.overflow_sub-result c).After-joined-field) ∙ sym c.read_number-2.ensures ∙ c.in_ok-value.was))
+    omega (arith, value-past (take a.carried (held_in a.state.now)) a.part.now _ _ _ c.requires.1 (sym (read-on (goal.at.overflow_sub-result c).After-joined-field) ∙ sym c.read_number-2.ensures ∙ c.in-Ok.is))
 
 pub returns : goal.returns
 returns c =
     let a = c.args in
-    let v = c.in_ok-value.field-0 in
+    let v = c.in-Ok.field-0 in
     let z : v.next - a.carried ≡ 0 + (v.next - a.carried) = omega arith in
-    ap (λ (n : ℕ). found v.value n v.shortest) z ∙ ap (shifted a.carried 0) (sym c.in_ok-value.was ∙ c.read_number-2.ensures ∙ read-on (goal.at.returns c).After-joined-field)
+    ap (λ (n : ℕ). found v.value n v.shortest) z ∙ ap (shifted a.carried 0) (sym c.in-Ok.is ∙ c.read_number-2.ensures ∙ read-on (goal.at.returns c).After-joined-field)

@@ -48,29 +48,29 @@ overflow_mul-end c =
     let t = end-there a.profile (stand_in a.from a.state.now) a.part.now a.out.now h.0 (here (goal.at.overflow_mul-end c).After-min-n).0 (here (goal.at.overflow_mul-end c).After-min-n).1 c.min-n.result (many (goal.at.overflow_mul-end c).After-min-n) c.record_size-size.result c.record_size-size.ensures c.good_run-run.result c.good_run-run.ensures in
     omega (arith, t, c.well_formed)
 
-pub slice_bounds-copy_from_slice-end : goal.slice_bounds-copy_from_slice-end
-slice_bounds-copy_from_slice-end c =
+pub slice_bounds-copy-end : goal.slice_bounds-copy-end
+slice_bounds-copy-end c =
     let a = c.args in
     let h = c.requires in
-    end_fits a.profile (stand_in a.from a.state.now) a.part.now a.out.now h.0 (here (goal.at.slice_bounds-copy_from_slice-end c).After-min-n).0 (here (goal.at.slice_bounds-copy_from_slice-end c).After-min-n).1 c.min-n.result (many (goal.at.slice_bounds-copy_from_slice-end c).After-min-n) c.record_size-size.result c.record_size-size.ensures c.good_run-run.result c.good_run-run.ensures
+    end_fits a.profile (stand_in a.from a.state.now) a.part.now a.out.now h.0 (here (goal.at.slice_bounds-copy-end c).After-min-n).0 (here (goal.at.slice_bounds-copy-end c).After-min-n).1 c.min-n.result (many (goal.at.slice_bounds-copy-end c).After-min-n) c.record_size-size.result c.record_size-size.ensures c.good_run-run.result c.good_run-run.ensures
 
-pub slice_bounds-copy_from_slice-end-2 : goal.slice_bounds-copy_from_slice-end-2
-slice_bounds-copy_from_slice-end-2 c =
+pub slice_bounds-copy-end-2 : goal.slice_bounds-copy-end-2
+slice_bounds-copy-end-2 c =
     let a = c.args in
     let h = c.requires in
-    sym (length-take-le _ _ (end_fits a.profile (stand_in a.from a.state.now) a.part.now a.out.now h.0 (here (goal.at.slice_bounds-copy_from_slice-end-2 c).After-min-n).0 (here (goal.at.slice_bounds-copy_from_slice-end-2 c).After-min-n).1 c.min-n.result (many (goal.at.slice_bounds-copy_from_slice-end-2 c).After-min-n) c.record_size-size.result c.record_size-size.ensures c.good_run-run.result c.good_run-run.ensures))
+    sym (length-take-le _ _ (end_fits a.profile (stand_in a.from a.state.now) a.part.now a.out.now h.0 (here (goal.at.slice_bounds-copy-end-2 c).After-min-n).0 (here (goal.at.slice_bounds-copy-end-2 c).After-min-n).1 c.min-n.result (many (goal.at.slice_bounds-copy-end-2 c).After-min-n) c.record_size-size.result c.record_size-size.ensures c.good_run-run.result c.good_run-run.ensures))
 
-pub slice_bounds-copy_from_slice-end-3 : goal.slice_bounds-copy_from_slice-end-3
-slice_bounds-copy_from_slice-end-3 c =
+pub slice_bounds-copy-end-3 : goal.slice_bounds-copy-end-3
+slice_bounds-copy-end-3 c =
     let a = c.args in
     let h = c.requires in
-    sym (length-take-le _ _ (end-there a.profile (stand_in a.from a.state.now) a.part.now a.out.now h.0 (here (goal.at.slice_bounds-copy_from_slice-end-3 c).After-min-n).0 (here (goal.at.slice_bounds-copy_from_slice-end-3 c).After-min-n).1 c.min-n.result (many (goal.at.slice_bounds-copy_from_slice-end-3 c).After-min-n) c.record_size-size.result c.record_size-size.ensures c.good_run-run.result c.good_run-run.ensures))
+    sym (length-take-le _ _ (end-there a.profile (stand_in a.from a.state.now) a.part.now a.out.now h.0 (here (goal.at.slice_bounds-copy-end-3 c).After-min-n).0 (here (goal.at.slice_bounds-copy-end-3 c).After-min-n).1 c.min-n.result (many (goal.at.slice_bounds-copy-end-3 c).After-min-n) c.record_size-size.result c.record_size-size.ensures c.good_run-run.result c.good_run-run.ensures))
 
-pub copy_from_slice-requires : goal.copy_from_slice-requires
-copy_from_slice-requires c =
+pub copy-requires : goal.copy-requires
+copy-requires c =
     let a = c.args in
     let h = c.requires in
-    length-take-le _ _ (end_fits a.profile (stand_in a.from a.state.now) a.part.now a.out.now h.0 (here (goal.at.copy_from_slice-requires c).After-min-n).0 (here (goal.at.copy_from_slice-requires c).After-min-n).1 c.min-n.result (many (goal.at.copy_from_slice-requires c).After-min-n) c.record_size-size.result c.record_size-size.ensures c.good_run-run.result c.good_run-run.ensures) ∙ sym (length-take-le _ _ (end-there a.profile (stand_in a.from a.state.now) a.part.now a.out.now h.0 (here (goal.at.copy_from_slice-requires c).After-min-n).0 (here (goal.at.copy_from_slice-requires c).After-min-n).1 c.min-n.result (many (goal.at.copy_from_slice-requires c).After-min-n) c.record_size-size.result c.record_size-size.ensures c.good_run-run.result c.good_run-run.ensures))
+    length-take-le _ _ (end_fits a.profile (stand_in a.from a.state.now) a.part.now a.out.now h.0 (here (goal.at.copy-requires c).After-min-n).0 (here (goal.at.copy-requires c).After-min-n).1 c.min-n.result (many (goal.at.copy-requires c).After-min-n) c.record_size-size.result c.record_size-size.ensures c.good_run-run.result c.good_run-run.ensures) ∙ sym (length-take-le _ _ (end-there a.profile (stand_in a.from a.state.now) a.part.now a.out.now h.0 (here (goal.at.copy-requires c).After-min-n).0 (here (goal.at.copy-requires c).After-min-n).1 c.min-n.result (many (goal.at.copy-requires c).After-min-n) c.record_size-size.result c.record_size-size.ensures c.good_run-run.result c.good_run-run.ensures))
 
 pub overflow_add-end : goal.overflow_add-end
 overflow_add-end c =
@@ -89,7 +89,7 @@ pub returns-then-good-n : goal.returns-then-good-n
 returns-then-good-n c =
     let a = c.args in
     let h = c.requires in
-    row-bad-done a.profile (stand_in a.from a.state.now) a.part.now a.out.now h.0 (here (goal.at.returns-then-good-n c).After-min-n).0 (here (goal.at.returns-then-good-n c).After-min-n).1 c.min-n.result (many (goal.at.returns-then-good-n c).After-min-n) c.record_size-size.result c.record_size-size.ensures c.good_run-run.result c.good_run-run.ensures c.if-good-n.true c.copy_from_slice.new.self c.copy_from_slice.ensures.after _ (ap (λ (x : Walked). moved_in x a.state.now) c.after_bad.ensures)
+    row-bad-done a.profile (stand_in a.from a.state.now) a.part.now a.out.now h.0 (here (goal.at.returns-then-good-n c).After-min-n).0 (here (goal.at.returns-then-good-n c).After-min-n).1 c.min-n.result (many (goal.at.returns-then-good-n c).After-min-n) c.record_size-size.result c.record_size-size.ensures c.good_run-run.result c.good_run-run.ensures c.if-good-n.true c.copy.new.to c.copy.ensures _ (ap (λ (x : Walked). moved_in x a.state.now) c.after_bad.ensures)
 
 pub overflow_sub-now : goal.overflow_sub-now
 overflow_sub-now c =
@@ -101,4 +101,4 @@ pub returns : goal.returns
 returns c =
     let a = c.args in
     let h = c.requires in
-    row_done a.profile (stand_in a.from a.state.now) a.part.now a.out.now h.0 (here (goal.at.returns c).After-min-n).0 (here (goal.at.returns c).After-min-n).1 c.min-n.result (many (goal.at.returns c).After-min-n) c.record_size-size.result c.record_size-size.ensures c.good_run-run.result c.good_run-run.ensures (λ z. absurd (omega (arith, z, c.if-good-n.false))) c.copy_from_slice.new.self c.copy_from_slice.ensures.after _ refl
+    row_done a.profile (stand_in a.from a.state.now) a.part.now a.out.now h.0 (here (goal.at.returns c).After-min-n).0 (here (goal.at.returns c).After-min-n).1 c.min-n.result (many (goal.at.returns c).After-min-n) c.record_size-size.result c.record_size-size.ensures c.good_run-run.result c.good_run-run.ensures (λ z. absurd (omega (arith, z, c.if-good-n.false))) c.copy.new.to c.copy.ensures _ refl

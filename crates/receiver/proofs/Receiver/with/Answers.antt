@@ -109,5 +109,5 @@ returns c =
     let s = over c.with_in-seen.new.words c.with_in-seen.result in
     let p = c.with-pending.result in
     more (record_over ws a.self) a.number a.time a.eliciting a.mark s p _ _ _ _ c.if-not-eliciting.false (seen-with (goal.at.returns c).After-with_in-seen)
-    c.with-pending.ensures c.max-highest.ensures (c.from-last.ensures ∙ byte _ ∙ ap (λ (b : Bool). pick b 1 0) c.is_ce-ce.ensures)
+    c.with-pending.ensures c.larger_of-highest.ensures (c.from-last.ensures ∙ byte _ ∙ ap (λ (b : Bool). pick b 1 0) c.is_ce-ce.ensures)
     (c.cause_after-cause.ensures ∙ cause-over ws a.self a.number c.is_ce-ce.result s p ∙ ap (λ (b : Bool). cause_after (record_over ws a.self) a.number b s p) c.is_ce-ce.ensures) c.counted-totals.ensures

@@ -22,10 +22,10 @@ pub returns-in-Some : goal.returns-in-Some
 returns-in-Some c =
     let a = c.args in
     gap_at (over a.words.now a.seen) a.reach a.acknowledged a.end _ c.requires.1.some
-    (sym c.in-Some.is ∙ c.first_missing_in.ensures ∙ ap (λ (k : ℕ). first_missing (over a.words.now a.seen) k (a.end - 1)) c.saturating_sub-from.ensures)
+    (sym c.in-Some.is ∙ c.first_missing_in.ensures ∙ ap (λ (k : ℕ). first_missing (over a.words.now a.seen) k (a.end - 1)) c.minus_or_zero-from.ensures)
 
 pub returns-in-None : goal.returns-in-None
 returns-in-None c =
     let a = c.args in
     gap-none (over a.words.now a.seen) a.reach a.acknowledged a.end
-    (sym c.in-None.is ∙ c.first_missing_in.ensures ∙ ap (λ (k : ℕ). first_missing (over a.words.now a.seen) k (a.end - 1)) c.saturating_sub-from.ensures)
+    (sym c.in-None.is ∙ c.first_missing_in.ensures ∙ ap (λ (k : ℕ). first_missing (over a.words.now a.seen) k (a.end - 1)) c.minus_or_zero-from.ensures)

@@ -22,4 +22,4 @@ pub returns : goal.returns
 returns c =
     let a = c.args in
     let p = c.requires in
-    laid a.buf.now a.numbers.now a.records.now _ _ a.at p.1.0 p.1.1 c.store_numbers.ensures c.copy_from_slice.ensures.after
+    laid a.buf.now a.numbers.now a.records.now _ _ a.at p.1.0 p.1.1 c.store_numbers.ensures c.copy.ensures

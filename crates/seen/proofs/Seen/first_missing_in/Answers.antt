@@ -10,4 +10,4 @@ use Rattle.seen.proofs.Seen.first_missing_in.Goals as goal
 pub returns-then-high-low : goal.returns-then-high-low
 returns-then-high-low c =
     let a = c.args in
-    none-sought (over a.words.now a.self) a.from a.to (omega (arith, c.max-low.ensures ∙ ap (max a.from) c.floor.ensures))
+    none-sought (over a.words.now a.self) a.from a.to (omega (arith, c.larger_of-low.ensures ∙ ap (max a.from) c.floor.ensures))

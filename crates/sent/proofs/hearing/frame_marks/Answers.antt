@@ -29,7 +29,7 @@ returns-then-left-eq0 c =
     let b : Ranges = ranges_from c.loop-smallest.left c.args.s.now c.loop-smallest.place c.loop-smallest.high in
     let w = within (ranges_of c.args.s.now c.args.checked.now).pairs in
     let m : c.loop-smallest.high < c.args.floor + 1024 = omega (arith, c.loop-smallest.invariant.0, c.requires.0) in
-    record { marks = marked-last c.loop-smallest.words c.add_range.new.words c.args.floor _ c.loop-smallest.high c.max.result n m (omega (arith, c.max.ensures)) c.add_range.ensures b w c.loop-smallest.invariant.3 refl e }
+    record { marks = marked-last c.loop-smallest.words c.add_range.new.words c.args.floor _ c.loop-smallest.high c.larger.result n m (omega (arith, c.larger.ensures)) c.add_range.ensures b w c.loop-smallest.invariant.3 refl e }
 
 pub loop-smallest-preserved : goal.loop-smallest-preserved
 loop-smallest-preserved c =
@@ -42,5 +42,5 @@ loop-smallest-preserved c =
       omega (arith, c.loop-smallest.invariant.0, f.1),
       subst IsWhole (sym (ap (λ (x : Ranges). x.walk) e)) c.loop-smallest.invariant.1,
       ap length c.add_range.ensures ∙ range-long _ _ _ ∙ n,
-      marked_more c.loop-smallest.words c.add_range.new.words c.args.floor _ c.loop-smallest.high c.max.result n m (omega (arith, c.max.ensures)) c.add_range.ensures b w c.loop-smallest.invariant.3 e,
+      marked_more c.loop-smallest.words c.add_range.new.words c.args.floor _ c.loop-smallest.high c.larger.result n m (omega (arith, c.larger.ensures)) c.add_range.ensures b w c.loop-smallest.invariant.3 e,
     )
