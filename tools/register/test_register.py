@@ -157,6 +157,15 @@ class Found(unittest.TestCase):
             faults = list(checks.functions(NOW))
         self.assertTrue(any("read_number is public, no theorem" in fault for fault in faults))
         self.assertFalse(any(": play is public, no theorem" in fault for fault in faults))
+        self.assertTrue(any("Profile::try_from is public, no theorem" in fault for fault in faults))
+
+    def test_function_of_a_trait(self):
+        given = "crates/ecn/src/given.rt"
+        self.assertEqual([sources.functions()[one] for one in sources.public() if one[0] == given], ["Mark::from", "Kind::from"])
+        self.assertIn(("crates/ecn/specs/Given.antt", "kind_of"), sources.contract((given, "given::KindFromBool::from"))[0])
+        text = "\nimpl From<u64> for Mark {\n    ghost from_gives = { a };\n    fn from() {}\n}\nfn after() {}\n"
+        self.assertIn("a", sources.touches.trait_says(text, text.index("    fn from")))
+        self.assertEqual(sources.touches.trait_says(text, text.index("fn after")), "")
 
     def test_wrong_answer_in_no_row(self):
         with mock.patch.object(sources, "wrong_answers", lambda: {("crates/wire/must-fail/wrong_answers_1.edit", "unheard_of"): set()}):
